@@ -1,0 +1,80 @@
+ghost use Rattle.std.specs.Prelude.{◌≡◌, ◌<◌, ◌≤◌, ◌↔◌, length, vec_len, IfOk, IsErrOf};
+ghost use Rattle.std.specs.Cmp.Lexicographic.{nat_list_eq_equiv};
+ghost use Rattle.std.specs.Cmp.{partial_equiv_from_equiv};
+ghost use Rattle.rs_key.specs.Keys.{same_bytes};
+
+use crate::copies::TryClone;
+use crate::key::KeyError;
+use crate::no_memory::NoMemory;
+use std::alloc::Global;
+use std::marker::Model;
+
+/// What a key is given: 0 to 4,096 bytes. Contracts see the list of its bytes.
+#[derive(Debug, Drop)]
+pub struct Value {
+    bytes: Vec<u8>,
+}
+
+impl Model for Value {
+    ghost use Rattle.std.specs.Prelude.{List, ℕ, ◌≤◌, length};
+
+    ghost Value = { List ℕ };
+
+    ghost view = { λ v. v.bytes.items };
+
+    ghost invariant = { λ v. length v.bytes.items ≤ 4096 };
+}
+
+impl Value {
+    /// The most bytes of a value.
+    pub const MOST: usize = 4096;
+
+    /// A copy of these bytes as a value. BadLength comes exactly where there are more than 4,096.
+    pub fn new(alloc: Global, bytes: &[u8]) -> Result<Value, KeyError>
+        ensures ok { IfOk result (λ v. v ≡ bytes.now) }
+        ensures bad { IsErrOf result KeyError.BadLength ↔ (4096 < length bytes.now) }
+    {
+        if bytes.len() > Value::MOST {
+            return Err(KeyError::BadLength);
+        }
+        let bytes = Vec::from_slice(alloc, bytes)?;
+        Ok(Value { bytes })
+    }
+
+    /// The value of these bytes, without a copy.
+    pub fn from_bytes(bytes: Vec<u8>) -> Value
+        requires { vec_len bytes ≤ 4096 }
+        ensures { result ≡ bytes.items }
+    {
+        Value { bytes }
+    }
+
+    pub fn as_bytes(&self) -> &[u8]
+        ensures value { result.now ≡ self.now }
+        ensures most { length self.now ≤ 4096 }
+    {
+        &self.bytes
+    }
+}
+
+impl TryClone for Value {
+    fn try_clone(&self) -> Result<Value, NoMemory> {
+        Ok(Value {
+            bytes: self.bytes.clone()?,
+        })
+    }
+}
+
+impl PartialEq for Value {
+    ghost eq = { same_bytes };
+
+    ghost laws = { partial_equiv_from_equiv nat_list_eq_equiv };
+
+    fn eq(&self, other: &Value) -> bool {
+        self.as_bytes() == other.as_bytes()
+    }
+}
+
+impl Eq for Value {
+    ghost laws = { nat_list_eq_equiv };
+}
