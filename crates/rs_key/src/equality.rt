@@ -16,7 +16,7 @@ pub trait Same {
     ghost equals: { Self → Self → Bool };
 
     /// Whether the two values are equal: exactly, and as the test computes.
-    fn same(&self, other: &Self) -> bool
+    fn is_same(&self, other: &Self) -> bool
         ensures test { result ≡ equals self.now other.now }
         ensures exact { IsTrue result ↔ (self.now ≡ other.now) };
 }
@@ -24,7 +24,7 @@ pub trait Same {
 impl Same for u64 {
     ghost equals = { nat_eq };
 
-    fn same(&self, other: &u64) -> bool {
+    fn is_same(&self, other: &u64) -> bool {
         *self == *other
     }
 }
@@ -32,7 +32,7 @@ impl Same for u64 {
 impl Same for Epoch {
     ghost equals = { same_epochs };
 
-    fn same(&self, other: &Epoch) -> bool {
+    fn is_same(&self, other: &Epoch) -> bool {
         self.version == other.version && self.conf_ver == other.conf_ver
     }
 }
@@ -40,7 +40,7 @@ impl Same for Epoch {
 impl Same for Key {
     ghost equals = { same_bytes };
 
-    fn same(&self, other: &Key) -> bool {
+    fn is_same(&self, other: &Key) -> bool {
         self.as_bytes() == other.as_bytes()
     }
 }
@@ -48,7 +48,7 @@ impl Same for Key {
 impl Same for Value {
     ghost equals = { same_bytes };
 
-    fn same(&self, other: &Value) -> bool {
+    fn is_same(&self, other: &Value) -> bool {
         self.as_bytes() == other.as_bytes()
     }
 }
@@ -56,10 +56,10 @@ impl Same for Value {
 impl<T: Same> Same for Option<T> {
     ghost equals = { same_options T.equals };
 
-    fn same(&self, other: &Option<T>) -> bool {
+    fn is_same(&self, other: &Option<T>) -> bool {
         match (self, other) {
             (None, None) => true,
-            (Some(a), Some(b)) => a.same(b),
+            (Some(a), Some(b)) => a.is_same(b),
             _ => false,
         }
     }
@@ -68,22 +68,22 @@ impl<T: Same> Same for Option<T> {
 impl Same for Range {
     ghost equals = { same_bounds };
 
-    fn same(&self, other: &Range) -> bool {
-        self.start().same(other.start()) && self.end().same(other.end())
+    fn is_same(&self, other: &Range) -> bool {
+        self.start().is_same(other.start()) && self.end().is_same(other.end())
     }
 }
 
 impl<T: Same> Same for Rows<T> {
     ghost equals = { same_lists T.equals };
 
-    fn same(&self, other: &Rows<T>) -> bool {
+    fn is_same(&self, other: &Rows<T>) -> bool {
         if self.len() != other.len() {
             return false;
         }
         let a = self.as_slice();
         let b = other.as_slice();
         for i in 0..a.len() {
-            if !a[i].same(&b[i]) {
+            if !a[i].is_same(&b[i]) {
                 return false;
             }
         }

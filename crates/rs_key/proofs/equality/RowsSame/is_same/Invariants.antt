@@ -1,6 +1,6 @@
 use Rattle.std.proofs.Common.{◌≡◌, take, drop}
 use Rattle.rs_key.specs.Lists.{same_lists}
-use Rattle.rs_key.proofs.equality.RowsSame.same.Given as goal
+use Rattle.rs_key.proofs.equality.RowsSame.is_same.Given as goal
 
 abbrev pub invariant-loop-i : goal.invariant-loop-i
 invariant-loop-i g l = record {

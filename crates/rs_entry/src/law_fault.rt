@@ -1,0 +1,72 @@
+use crate::entry::{Carried, Entry};
+use crate::input::Boot;
+use crate::outcome::Mode;
+use rs_key::Range;
+
+/// Something that an input says of a region, or of one entry of its log.
+#[derive(Debug, Drop)]
+pub enum Statement {
+    Boot(Boot),
+    Entry(Entry),
+    Carried(Carried),
+}
+
+/// Why an input is no lawful set of committed logs.
+#[derive(Debug, Drop)]
+pub enum LawFault {
+    /// Two stores state the same differently: the store of the first statement, and of the other.
+    /// The index is 0 where the statements are about a region.
+    Differ {
+        first: u64,
+        second: u64,
+        region: u64,
+        index: u64,
+        was: Statement,
+        is: Statement,
+    },
+    /// Two regions that are there from the start share a key; the one with the lesser id first.
+    Overlap { one: Boot, other: Boot },
+    /// A split makes a region whose id is used already.
+    Reused {
+        store: u64,
+        region: u64,
+        index: u64,
+        id: u64,
+    },
+    /// An accepted Commit of a source that hasn't prepared this merge.
+    NotPrepared {
+        store: u64,
+        region: u64,
+        index: u64,
+        source: u64,
+        commit: u64,
+    },
+    /// An accepted Commit of a source that isn't next to the target.
+    NotNext {
+        store: u64,
+        region: u64,
+        index: u64,
+        source: u64,
+        commit: u64,
+        target_range: Range,
+        source_range: Range,
+    },
+    /// A Rollback of a merge that the region isn't in.
+    BadRollback {
+        store: u64,
+        region: u64,
+        index: u64,
+        commit: u64,
+        mode: Mode,
+    },
+    /// A region stands before a Commit whose source never comes to it.
+    Waits {
+        store: u64,
+        region: u64,
+        index: u64,
+        source: u64,
+        commit: u64,
+    },
+    /// A region has a log and is never made.
+    Unborn { store: u64, region: u64 },
+}
