@@ -13,8 +13,9 @@ mod key;
 mod no_memory;
 mod range;
 mod rows;
+#[cfg(test)]
+mod tests;
 mod value;
-
 
 pub use copies::TryClone;
 pub use epoch::{Epoch, Kind};

@@ -14,6 +14,6 @@ invariant_of-result-else-meets c =
     joined_is_range c.other.inside.start c.other.inside.end c.self.inside.start c.self.inside.end
     c.other.invariant c.self.invariant
     (other_meets (meets c.self.inside.end c.other.inside.start) (meets c.other.inside.end c.self.inside.start)
-        (subst (λ (o : Bounds). is_next_to (record { start = c.self.inside.start; end = c.self.inside.end }) o ≡ true) (sym c.other.view_is)
-            (subst (λ (s : Bounds). is_next_to s c.args.other ≡ true) (sym c.self.view_is) c.requires))
-        (sym c.meets.ensures ∙ c.if-meets.false))
+    (subst (λ (o : Bounds). is_next_to (record { start = c.self.inside.start; end = c.self.inside.end }) o ≡ true) (sym c.other.view_is)
+    (subst (λ (s : Bounds). is_next_to s c.args.other ≡ true) (sym c.self.view_is) c.requires))
+    (sym c.meets.ensures ∙ c.if-meets.false))
