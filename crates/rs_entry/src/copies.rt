@@ -20,11 +20,7 @@ impl TryClone for CarriedBody {
         match self {
             CarriedBody::Empty => Ok(CarriedBody::Empty),
             CarriedBody::Write(ops) => Ok(CarriedBody::Write(ops.try_clone()?)),
-            CarriedBody::Prepare {
-                target,
-            } => Ok(CarriedBody::Prepare {
-                target: *target,
-            }),
+            CarriedBody::Prepare { target } => Ok(CarriedBody::Prepare { target: *target }),
         }
     }
 }
@@ -44,20 +40,12 @@ impl TryClone for Body {
         match self {
             Body::Empty => Ok(Body::Empty),
             Body::Write(ops) => Ok(Body::Write(ops.try_clone()?)),
-            Body::Split {
-                side,
-                ids,
-                keys,
-            } => Ok(Body::Split {
+            Body::Split { side, ids, keys } => Ok(Body::Split {
                 side: *side,
                 ids: ids.try_clone()?,
                 keys: keys.try_clone()?,
             }),
-            Body::Prepare {
-                target,
-            } => Ok(Body::Prepare {
-                target: *target,
-            }),
+            Body::Prepare { target } => Ok(Body::Prepare { target: *target }),
             Body::Commit {
                 source,
                 commit,
@@ -67,16 +55,8 @@ impl TryClone for Body {
                 commit: *commit,
                 carried: carried.try_clone()?,
             }),
-            Body::Rollback {
-                commit,
-            } => Ok(Body::Rollback {
-                commit: *commit,
-            }),
-            Body::Conf {
-                change,
-            } => Ok(Body::Conf {
-                change: *change,
-            }),
+            Body::Rollback { commit } => Ok(Body::Rollback { commit: *commit }),
+            Body::Conf { change } => Ok(Body::Conf { change: *change }),
         }
     }
 }
@@ -249,10 +229,7 @@ impl TryClone for LawFault {
                 was: was.try_clone()?,
                 is: is.try_clone()?,
             }),
-            LawFault::Overlap {
-                one,
-                other,
-            } => Ok(LawFault::Overlap {
+            LawFault::Overlap { one, other } => Ok(LawFault::Overlap {
                 one: one.try_clone()?,
                 other: other.try_clone()?,
             }),
@@ -323,10 +300,7 @@ impl TryClone for LawFault {
                 source: *source,
                 commit: *commit,
             }),
-            LawFault::Unborn {
-                store,
-                region,
-            } => Ok(LawFault::Unborn {
+            LawFault::Unborn { store, region } => Ok(LawFault::Unborn {
                 store: *store,
                 region: *region,
             }),

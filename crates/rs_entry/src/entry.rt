@@ -35,7 +35,9 @@ pub enum Body {
         keys: Rows<Key>,
     },
     /// The region, as the source of a merge, is to be taken over by the target.
-    Prepare { target: u64 },
+    Prepare {
+        target: u64,
+    },
     /// The region, as the target of a merge, takes over the source, whose Prepare has the index `commit`.
     /// The carried entries are those of the source's log up to that index which some store may lack.
     Commit {
@@ -44,9 +46,13 @@ pub enum Body {
         carried: Rows<Carried>,
     },
     /// The merge that was prepared at the index `commit` is called off.
-    Rollback { commit: u64 },
+    Rollback {
+        commit: u64,
+    },
     /// A change of peers, in version 2 alone.
-    Conf { change: Change },
+    Conf {
+        change: Change,
+    },
 }
 
 /// One committed entry of a region's log.

@@ -58,7 +58,8 @@ impl Same for Carried {
     ghost equals = { same_carried };
 
     fn is_same(&self, other: &Carried) -> bool {
-        self.index == other.index && (self.epoch.is_same(&other.epoch) && self.body.is_same(&other.body))
+        self.index == other.index
+            && (self.epoch.is_same(&other.epoch) && self.body.is_same(&other.body))
     }
 }
 
@@ -90,7 +91,8 @@ impl Same for Body {
                     carried: other_carried,
                 },
             ) => {
-                *source == *other_source && (*commit == *other_commit && carried.is_same(other_carried))
+                *source == *other_source
+                    && (*commit == *other_commit && carried.is_same(other_carried))
             }
             (Body::Rollback { commit: a }, Body::Rollback { commit: b }) => *a == *b,
             (Body::Conf { change: a }, Body::Conf { change: b }) => a.is_same(b),
@@ -103,7 +105,8 @@ impl Same for Entry {
     ghost equals = { same_entries };
 
     fn is_same(&self, other: &Entry) -> bool {
-        self.index == other.index && (self.epoch.is_same(&other.epoch) && self.body.is_same(&other.body))
+        self.index == other.index
+            && (self.epoch.is_same(&other.epoch) && self.body.is_same(&other.body))
     }
 }
 

@@ -25,7 +25,10 @@ pub enum LawFault {
         is: Statement,
     },
     /// Two regions that are there from the start share a key; the one with the lesser id first.
-    Overlap { one: Boot, other: Boot },
+    Overlap {
+        one: Boot,
+        other: Boot,
+    },
     /// A split makes a region whose id is used already.
     Reused {
         store: u64,
@@ -68,5 +71,8 @@ pub enum LawFault {
         commit: u64,
     },
     /// A region has a log and is never made.
-    Unborn { store: u64, region: u64 },
+    Unborn {
+        store: u64,
+        region: u64,
+    },
 }

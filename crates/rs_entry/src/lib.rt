@@ -10,6 +10,8 @@ mod equality;
 mod input;
 mod law_fault;
 mod outcome;
+#[cfg(test)]
+mod tests;
 
 pub use entry::{Body, Carried, CarriedBody, Change, Entry, Op, Side};
 pub use input::{Boot, Input, Log, Store};
