@@ -1,0 +1,4 @@
+pub mod CodeOrder
+pub mod HistoryLaws
+pub mod KeyOrder
+pub mod RunLaws

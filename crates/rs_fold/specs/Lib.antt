@@ -1,0 +1,4 @@
+pub mod Histories
+pub mod KeyCodes
+pub mod Runs
+pub mod Writes

@@ -1,0 +1,11 @@
+//! What committed logs come to: replies, regions, pairs and each key's history.
+#![tactic(auto)]
+
+mod accepted_write;
+mod grouping;
+mod key_code;
+mod pairs;
+mod writes;
+
+pub use pairs::pairs_of;
+pub use writes::Writes;
