@@ -1,0 +1,19 @@
+//! The rules by which regions change: what becomes of an entry, and what an accepted entry makes of regions.
+//!
+//! A `RegionState` is a region on one store. `verdict` says of an entry, before it is applied, whether the
+//! region accepts it; the `exec_` calls do what an accepted entry says. docs/RULES.md tells the rules.
+#![tactic(auto)]
+
+mod laws;
+mod peers;
+mod reshape;
+mod split;
+mod state;
+mod verdict;
+
+pub use laws::{cut_laws, epoch_laws, join_laws, peer_laws, split_laws};
+pub use state::RegionState;
+pub use verdict::Verdict;
+
+#[cfg(test)]
+mod tests;
