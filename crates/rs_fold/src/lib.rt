@@ -5,6 +5,8 @@ mod accepted_write;
 mod grouping;
 mod key_code;
 mod pairs;
+#[cfg(test)]
+mod tests;
 mod writes;
 
 pub use pairs::pairs_of;
