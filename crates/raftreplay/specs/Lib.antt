@@ -1,0 +1,5 @@
+pub mod Expected
+pub mod Fold
+pub mod Kept
+pub mod Statuses
+pub mod Words

@@ -1,0 +1,136 @@
+ghost use Rattle.std.specs.Prelude.{◌≡◌, ◌≤◌, ◌↔◌, ℕ, [], Some, None, length, IfOk, IfSome};
+ghost use Rattle.rs_base.specs.Counts.{Rose};
+ghost use Rattle.raftreplay.specs.Statuses.{IsWritten, IsSilent};
+ghost use Rattle.raftreplay.specs.Expected.{expected, answer_of, fold_answer, limit};
+ghost use Rattle.raftreplay.specs.Kept.{KeepsTo, IsExpected};
+ghost use Rattle.raftreplay.specs.Words.{command_of, bytes_of};
+
+use crate::fold::{fold, is_served};
+use crate::status::Status;
+use crate::words::{Command, command_of};
+use rs_base::{ReadError, Sink, Source, WriteFault, read_all, write_all};
+use rs_entry::Input;
+use rs_key::NoMemory;
+use rs_text::{TextError, read_logs, write_outcome, write_syntax};
+use std::alloc::Global;
+
+/// The greatest length of an input, in bytes.
+const LIMIT: usize = 67_108_864;
+
+/// The answer to logs that this version doesn't serve yet.
+const UNBUILT: &str = "unlawful unbuilt\n";
+
+/// The status and the text that a command gives on the bytes of a source.
+#[tactic(auto, unfolding(crate::specs::Expected::answer_of))]
+fn answer(alloc: Global, command: Command, bytes: &[u8]) -> Result<(Status, Vec<u8>), NoMemory>
+    requires { length bytes.now ≤ limit }
+    ensures answer { IfOk result (λ a. answer_of command bytes.now ≡ record { status = a.0; text = a.1.items }) }
+    ensures written { IfOk result (λ a. IsWritten a.0) }
+{
+    match read_logs(alloc, bytes) {
+        Err(TextError::NoMemory) => Err(NoMemory),
+        Err(TextError::Fault { line, kind }) => {
+            let text = write_syntax(alloc, line, kind)?;
+            Ok((Status::Syntax, text))
+        }
+        Ok(input) => match command {
+            Command::Fold => Ok(fold_answer(alloc, &input)?),
+        },
+    }
+}
+
+fn fold_answer(alloc: Global, input: &Input) -> Result<(Status, Vec<u8>), NoMemory>
+    ensures answer { IfOk result (λ a. fold_answer input.now ≡ record { status = a.0; text = a.1.items }) }
+    ensures written { IfOk result (λ a. IsWritten a.0) }
+{
+    if !is_served(input) {
+        let text = Vec::from_slice(alloc, UNBUILT.as_bytes())?;
+        return Ok((Status::Unlawful, text));
+    }
+    let outcome = fold(alloc, input)?;
+    let text = write_outcome(alloc, &outcome)?;
+    Ok((Status::Done, text))
+}
+
+/// Reads a source to its end, and writes what the command gives on its bytes.
+fn run<S: Source, K: Sink>(alloc: Global, command: Command, source: &mut S, sink: &mut K) -> Status
+    ensures kept { IfSome (S.left source.old) (λ bytes. KeepsTo (answer_of command bytes) result (K.taken sink.old) (K.taken sink.new)) }
+    ensures silent { IsSilent result → sink.new ≡ sink.old }
+    ensures to_end { IsWritten result → IfSome (S.left source.old) (λ _. S.left source.new ≡ Some []) }
+
+    // A failed read, or a failed write, comes only where one failed in this call. Where none did, the
+    // status is the expected one, or memory ran out.
+    ensures read_fault { result ≡ Status.ReadFault → Rose (S.faults source.old) (S.faults source.new) }
+    ensures write_fault { result ≡ Status.WriteFault → Rose (K.faults sink.old) (K.faults sink.new) }
+    ensures complete { ¬ Rose (S.faults source.old) (S.faults source.new) → ¬ Rose (K.faults sink.old) (K.faults sink.new)
+        → IfSome (S.left source.old) (λ bytes. IsExpected (answer_of command bytes) result) }
+
+    ensures not_usage { result ≡ Status.Usage → ⊥ }
+    ensures kept_read_faults { S.faults source.old ≤ S.faults source.new }
+    ensures kept_write_faults { K.faults sink.old ≤ K.faults sink.new }
+{
+    let bytes = match read_all(alloc, source, LIMIT) {
+        Ok(bytes) => bytes,
+        Err(ReadError::ReadFault) => return Status::ReadFault,
+        Err(ReadError::TooLong) => return Status::TooLong,
+        Err(ReadError::NoMemory) => return Status::NoMemory,
+    };
+    match answer(alloc, command, &bytes) {
+        Err(NoMemory) => Status::NoMemory,
+        Ok((status, text)) => match write_all(sink, &text) {
+            Ok(()) => status,
+            Err(WriteFault) => Status::WriteFault,
+        },
+    }
+}
+
+/// Writes what comes of the logs that the source gives.
+pub fn fold_command<S: Source, K: Sink>(alloc: Global, source: &mut S, sink: &mut K) -> Status
+    ensures kept { IfSome (S.left source.old) (λ bytes. KeepsTo (answer_of Command.Fold bytes) result (K.taken sink.old) (K.taken sink.new)) }
+    ensures silent { IsSilent result → sink.new ≡ sink.old }
+    ensures to_end { IsWritten result → IfSome (S.left source.old) (λ _. S.left source.new ≡ Some []) }
+
+    // A failed read, or a failed write, comes only where one failed in this call. Where none did, the
+    // status is the expected one, or memory ran out.
+    ensures read_fault { result ≡ Status.ReadFault → Rose (S.faults source.old) (S.faults source.new) }
+    ensures write_fault { result ≡ Status.WriteFault → Rose (K.faults sink.old) (K.faults sink.new) }
+    ensures complete { ¬ Rose (S.faults source.old) (S.faults source.new) → ¬ Rose (K.faults sink.old) (K.faults sink.new)
+        → IfSome (S.left source.old) (λ bytes. IsExpected (answer_of Command.Fold bytes) result) }
+
+    ensures not_usage { result ≡ Status.Usage → ⊥ }
+    ensures kept_read_faults { S.faults source.old ≤ S.faults source.new }
+    ensures kept_write_faults { K.faults sink.old ≤ K.faults sink.new }
+{
+    run(alloc, Command::Fold, source, sink)
+}
+
+/// Does all that the program does.
+pub fn command<S: Source, K: Sink>(
+    alloc: Global,
+    words: &[String],
+    source: &mut S,
+    sink: &mut K,
+) -> Status
+    ensures kept { IfSome (S.left source.old) (λ bytes. KeepsTo (expected (bytes_of words.now) bytes) result (K.taken sink.old) (K.taken sink.new)) }
+    ensures silent { IsSilent result → sink.new ≡ sink.old }
+    ensures to_end { IsWritten result → IfSome (S.left source.old) (λ _. S.left source.new ≡ Some []) }
+
+    // A failed read, or a failed write, comes only where one failed in this call. Where none did, the
+    // status is the expected one, or memory ran out.
+    ensures read_fault { result ≡ Status.ReadFault → Rose (S.faults source.old) (S.faults source.new) }
+    ensures write_fault { result ≡ Status.WriteFault → Rose (K.faults sink.old) (K.faults sink.new) }
+    ensures complete { ¬ Rose (S.faults source.old) (S.faults source.new) → ¬ Rose (K.faults sink.old) (K.faults sink.new)
+        → IfSome (S.left source.old) (λ bytes. IsExpected (expected (bytes_of words.now) bytes) result) }
+
+    // Words that are no command are refused before anything is read.
+    ensures usage { (result ≡ Status.Usage) ↔ (command_of (bytes_of words.now) ≡ None) }
+    ensures nothing_read { command_of (bytes_of words.now) ≡ None → source.new ≡ source.old }
+
+    ensures kept_read_faults { S.faults source.old ≤ S.faults source.new }
+    ensures kept_write_faults { K.faults sink.old ≤ K.faults sink.new }
+{
+    match command_of(words) {
+        None => Status::Usage,
+        Some(command) => run(alloc, command, source, sink),
+    }
+}

@@ -1,0 +1,46 @@
+//! Replays the committed logs of a TiKV cluster's stores, and tells what came of them.
+//!
+//! The program is the call of [`command`] on standard input and output. README.md has a tour.
+#![tactic(auto)]
+
+mod commands;
+mod fold;
+mod status;
+mod streams;
+#[cfg(test)]
+mod tests;
+mod words;
+
+pub use commands::{command, fold_command};
+pub use status::Status;
+use std::io;
+use std::io::ErrorKind;
+use std::process::ExitCode;
+use streams::{StdSink, StdSource};
+pub use words::Command;
+
+fn main(rt: HostRuntime) -> ExitCode {
+    let status = match arguments(&rt) {
+        Ok(words) => {
+            let mut source = StdSource::new(rt.stdin());
+            let mut sink = StdSink::new(rt.stdout());
+            command(rt.alloc(), &words, &mut source, &mut sink)
+        }
+        Err(error) if error.kind() == ErrorKind::OutOfMemory => Status::NoMemory,
+        Err(_) => Status::Usage,
+    };
+    if let Some(message) = status.message() {
+        // Where standard error is gone, the status still tells.
+        let _ = eprintln!(rt; "{message}");
+    }
+    ExitCode::from(status.number())
+}
+
+/// The words after the program's name. Words that aren't text are an error.
+fn arguments(rt: &HostRuntime) -> io::Result<Vec<String>> {
+    let mut words = Vec::new(rt.alloc());
+    for word in std::env::args(rt)?.skip(1) {
+        words.push(word)?;
+    }
+    Ok(words)
+}

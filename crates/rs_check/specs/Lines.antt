@@ -1,0 +1,36 @@
+-- The entry that a region of a store applies at an index.
+use Rattle.std.specs.Prelude.{ℕ, ◌-◌, ◌==◌, List, [], ◌∷◌, Option, None, if◌then◌else◌}
+use Rattle.std.specs.List.{find}
+use Rattle.rs_entry.specs.declared.entry.Body.{Body}
+use Rattle.rs_entry.specs.declared.entry.Body.TheVariants as body
+use Rattle.rs_entry.specs.declared.entry.Carried.{Carried}
+use Rattle.rs_entry.specs.declared.entry.Entry.{Entry}
+use Rattle.rs_entry.specs.declared.input.Log.{Log}
+use Rattle.rs_entry.specs.declared.input.Store.{Store}
+use Rattle.rs_entry.specs.declared.input.Input.{Input}
+use Rattle.rs_order.specs.Stores.{first_some, own, own_next, entry_at}
+
+abbrev pub carried_by : ℕ → ℕ → Body → Option Carried
+carried_by region index (body.Commit source commit carried) = if source == region then find (λ c. c.index == index) carried else None
+carried_by region index b = None
+
+abbrev pub carried_in : ℕ → ℕ → List Entry → Option Carried
+carried_in region index [] = None
+carried_in region index (e ∷ es) = first_some (carried_by region index e.body) (carried_in region index es)
+
+abbrev pub carried_at : ℕ → ℕ → List Log → Option Carried
+carried_at region index [] = None
+carried_at region index (log ∷ logs) = first_some (carried_in region index log.entries) (carried_at region index logs)
+
+-- the own entry, else the first that a commit of the store's logs carries
+abbrev pub entry_in : Store → ℕ → ℕ → Option Entry
+entry_in store region index = first_some (own_next (own store region) (index - 1)) (entry_at (carried_at region index store.logs))
+
+-- on the store with this id
+abbrev pub line_in : ℕ → ℕ → ℕ → List Store → Option Entry
+line_in store region index [] = None
+line_in store region index (s ∷ ss) = if s.id == store then entry_in s region index else line_in store region index ss
+
+-- the entry of an input's region, by the ids of store and region, at an index
+abbrev pub line_at : Input → ℕ × ℕ → ℕ → Option Entry
+line_at input a index = line_in a.0 a.1 index input.stores

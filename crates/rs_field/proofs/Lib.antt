@@ -1,0 +1,6 @@
+pub mod CutLaws
+pub mod DigitLaws
+pub mod NumberLaws
+pub mod OnLiterals
+pub mod ReadLaws
+pub mod TextLaws

@@ -1,0 +1,55 @@
+//! Where fields and lines end.
+
+ghost use Rattle.std.specs.Prelude.{◌≡◌, ◌==◌, ◌∷◌, ◌≤◌, ◌<◌, [], length, not, MatchOption, IfSome};
+ghost use Rattle.std.specs.List.{position_or_len};
+ghost use Rattle.rs_field.specs.Lines.{parts_of, fields_of};
+
+/// Where the byte first stands, or the length where it doesn't.
+fn place_of(bytes: &[u8], byte: u8) -> usize
+    ensures place { result ≡ position_or_len (λ b. b == byte) bytes.now }
+    ensures bound { result ≤ length bytes.now }
+{
+    for (i, b) in bytes.iter().enumerate() {
+        if *b == byte {
+            return i;
+        }
+    }
+    bytes.len()
+}
+
+/// How many spaces stand at the front.
+fn spaces_of(bytes: &[u8]) -> usize
+    ensures place { result ≡ position_or_len (λ b. not (b == 32)) bytes.now }
+    ensures bound { result ≤ length bytes.now }
+{
+    for (i, b) in bytes.iter().enumerate() {
+        if *b != b' ' {
+            return i;
+        }
+    }
+    bytes.len()
+}
+
+/// The first field and what follows it; none exactly where the line has no field.
+pub fn next_field(line: &[u8]) -> Option<(&[u8], &[u8])>
+    ensures { MatchOption result (fields_of line.now ≡ []) (λ p. fields_of line.now ≡ p.0.now ∷ fields_of p.1.now) }
+{
+    let rest = &line[spaces_of(line)..];
+    if rest.is_empty() {
+        return None;
+    }
+    let (field, after) = rest.split_at(place_of(rest, b' '));
+    Some((field, after))
+}
+
+/// The first line and the text after its LF; none exactly where the text has no LF.
+pub fn next_line(text: &[u8]) -> Option<(&[u8], &[u8])>
+    ensures parts { MatchOption result (parts_of text.now ≡ text.now ∷ []) (λ p. parts_of text.now ≡ p.0.now ∷ parts_of p.1.now) }
+    ensures shorter { IfSome result (λ p. length p.1.now < length text.now) }
+{
+    let end = place_of(text, b'\n');
+    if end == text.len() {
+        return None;
+    }
+    Some((&text[..end], &text[end + 1..]))
+}

@@ -1,0 +1,12 @@
+pub mod AwaitLaws
+pub mod EndLaws
+pub mod Folds
+pub mod FormLaws
+pub mod Frames
+pub mod Loops
+pub mod Near
+pub mod Orders
+pub mod PlaceSteps
+pub mod Rising
+pub mod Updates
+pub mod Verdicts

@@ -1,0 +1,23 @@
+//! What one store comes to when it applies its logs in the canonical order.
+//!
+//! On each store the least region that is ready takes its next entry, until none is ready. docs/RULES.md tells
+//! when a region is ready, and what faults an order can meet.
+#![tactic(auto)]
+
+mod awaits;
+mod counts;
+mod cursor;
+mod ends;
+mod fault;
+mod ids;
+mod order;
+mod places;
+mod regions;
+mod run;
+mod step;
+
+pub use ends::{StoreRun, run_store};
+pub use fault::{StepFault, StoreFault};
+pub use places::PlaceMap;
+pub use regions::{Made, Origin, Regions};
+pub use run::{Line, find_carried, own, own_next};

@@ -1,0 +1,237 @@
+ghost use Rattle.std.specs.Prelude.{◌≡◌, ℕ, ◌+◌, ◌<◌, ◌≤◌, ◌^◌, ◌==◌, Option, Some, None, IfOk, IfSome, OnOk, slice_get, map, true};
+ghost use Rattle.std.specs.List.{find, list_any};
+ghost use Rattle.std.specs.Option.{option_copied, option_map};
+ghost use Rattle.rs_entry.specs.Entries.{entry_of};
+ghost use Rattle.rs_order.specs.Stores.{own, ids_of, is_fitting, is_paused, goes_on, merge_of, own_next, stands, entry_at, carried_at, carried_next, next, has_applied, is_ready, least_ready, step, is_accept};
+ghost use Rattle.rs_order.specs.Runs.{seen, bare, forget, told, next_in, IsLow, IsAllLow, IsFormed, IsFormedStore, line_entry};
+
+use crate::fault::StepFault;
+use crate::regions::{Made, Origin, Regions};
+use rs_entry::{Body, Carried, Entry, Mode, Store};
+use rs_key::{Epoch, Kind, NoMemory, Rows};
+use rs_region::{RegionState, Verdict};
+use std::marker::Model;
+
+/// An entry: of the region's own log, or carried by a commit.
+#[derive(Clone, Copy)]
+pub enum Line<'a> {
+    Own(&'a Entry),
+    Carried(&'a Carried),
+}
+
+/// The merge before which a region stands.
+#[derive(Drop)]
+pub struct Standing<'a> {
+    pub source: u64,
+    pub commit: u64,
+    pub carried: &'a Rows<Carried>,
+}
+
+impl<'a> Model for Standing<'a> {
+    ghost use Rattle.rs_order.specs.Stores.{Merge};
+
+    ghost Value = { Merge };
+
+    ghost view = { λ s. record { source = s.source; commit = s.commit; carried = s.carried.now } };
+}
+
+/// The store's own log of a region.
+pub fn own(store: &Store, region: u64) -> &[Entry]
+    ensures { result.now ≡ own store.now region }
+{
+    for log in store.logs.as_slice() {
+        if log.region == region {
+            return log.entries.as_slice();
+        }
+    }
+    &[]
+}
+
+fn is_fitting(commit: u64, epoch: &Epoch, entry: &Entry) -> bool
+    ensures { result ≡ is_fitting commit epoch.now entry.now }
+{
+    match entry.body {
+        Body::Rollback { commit: own } => {
+            commit < entry.index && (own == commit && epoch.matches(Kind::Rollback, &entry.epoch))
+        }
+        _ => false,
+    }
+}
+
+fn has_rollback(log: &[Entry], commit: u64, epoch: &Epoch) -> bool
+    ensures { result ≡ list_any (is_fitting commit epoch.now) log.now }
+{
+    for entry in log {
+        if is_fitting(commit, epoch, entry) {
+            return true;
+        }
+    }
+    false
+}
+
+pub fn is_paused(log: &[Entry], state: &RegionState) -> bool
+    ensures { result ≡ is_paused log.now state.now }
+{
+    match state.mode {
+        Mode::Merging { commit, .. } => !has_rollback(log, commit, &state.epoch),
+        _ => false,
+    }
+}
+
+fn goes_on(log: &[Entry], state: &RegionState) -> bool
+    ensures { result ≡ goes_on log.now state.now }
+{
+    match state.mode {
+        Mode::Merged { .. } | Mode::Removed => false,
+        _ => !is_paused(log, state),
+    }
+}
+
+pub fn is_accept(verdict: Verdict) -> bool
+    ensures { result ≡ is_accept verdict }
+{
+    match verdict {
+        Verdict::Accept => true,
+        _ => false,
+    }
+}
+
+fn merge_of<'a>(state: &RegionState, entry: &'a Entry) -> Option<Standing<'a>>
+    ensures { result ≡ merge_of state.now (Some entry.now) }
+{
+    if !is_accept(state.verdict(entry)) {
+        return None;
+    }
+    match &entry.body {
+        Body::Commit {
+            source,
+            commit,
+            carried,
+        } => Some(Standing {
+            source: *source,
+            commit: *commit,
+            carried,
+        }),
+        _ => None,
+    }
+}
+
+pub fn own_next(log: &[Entry], applied: u64) -> Option<&Entry>
+    ensures { option_copied result ≡ own_next log.now applied }
+{
+    log.get(applied.saturating_sub(5) as usize)
+}
+
+pub fn stands<'a>(store: &'a Store, regions: &Regions, id: u64) -> Option<Standing<'a>>
+    ensures { result ≡ stands store.now (bare (seen regions.now)) id }
+{
+    let log = own(store, id);
+    let Some(made) = regions.get(id) else {
+        return None;
+    };
+    if !goes_on(log, &made.state) {
+        return None;
+    }
+    match own_next(log, made.applied) {
+        None => None,
+        Some(entry) => merge_of(&made.state, entry),
+    }
+}
+
+pub fn find_carried(carried: &[Carried], index: u64) -> Option<&Carried>
+    ensures { option_copied result ≡ find (λ c. c.index == index) carried.now }
+{
+    for c in carried {
+        if c.index == index {
+            return Some(c);
+        }
+    }
+    None
+}
+
+fn carried_at<'a>(
+    store: &'a Store,
+    regions: &Regions,
+    t: u64,
+    id: u64,
+    index: u64,
+) -> Option<&'a Carried>
+    ensures { entry_at (option_copied result) ≡ carried_at id index (stands store.now (bare (seen regions.now)) t) }
+{
+    let Some(merge) = stands(store, regions, t) else {
+        return None;
+    };
+    if merge.source != id {
+        return None;
+    }
+    find_carried(merge.carried.as_slice(), index)
+}
+
+fn carried_next<'a>(
+    store: &'a Store,
+    ids: &[u64],
+    regions: &Regions,
+    id: u64,
+    index: u64,
+) -> Option<&'a Carried>
+    ensures { entry_at (option_copied result) ≡ carried_next store.now (bare (seen regions.now)) ids.now id index }
+{
+    for t in ids {
+        if let Some(c) = carried_at(store, regions, *t, id, index) {
+            return Some(c);
+        }
+    }
+    None
+}
+
+#[tactic(auto, using(crate::proofs::Verdicts::formed_carried))]
+pub fn next<'a>(
+    store: &'a Store,
+    ids: &[u64],
+    regions: &Regions,
+    id: u64,
+    made: &Made,
+) -> Option<Line<'a>>
+    requires ids { ids.now ≡ ids_of store.now }
+    requires low { made.now.applied < 2 ^ 62 }
+    ensures value { option_map line_entry result ≡ next store.now (bare (seen regions.now)) id made.now }
+    ensures formed { IsFormedStore store.now → IfSome result (λ line. IsFormed (line_entry line).body) }
+{
+    if let Some(entry) = own_next(own(store, id), made.applied) {
+        return Some(Line::Own(entry));
+    }
+    match carried_next(store, ids, regions, id, made.applied + 1) {
+        None => None,
+        Some(c) => Some(Line::Carried(c)),
+    }
+}
+
+fn has_applied(regions: &Regions, id: u64, commit: u64) -> bool
+    ensures { result ≡ has_applied commit (seen regions.now id) }
+{
+    match regions.get(id) {
+        None => false,
+        Some(made) => commit <= made.applied,
+    }
+}
+
+pub fn is_ready(store: &Store, ids: &[u64], regions: &Regions, id: u64) -> bool
+    requires ids { ids.now ≡ ids_of store.now }
+    requires low { IsAllLow (seen regions.now) }
+    ensures { result ≡ is_ready store.now (bare (seen regions.now)) id }
+{
+    let Some(made) = regions.get(id) else {
+        return false;
+    };
+    if !goes_on(own(store, id), &made.state) {
+        return false;
+    }
+    match next(store, ids, regions, id, made) {
+        None => false,
+        Some(Line::Carried(_)) => true,
+        Some(Line::Own(entry)) => match merge_of(&made.state, entry) {
+            None => true,
+            Some(merge) => has_applied(regions, merge.source, merge.commit),
+        },
+    }
+}

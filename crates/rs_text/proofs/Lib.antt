@@ -1,0 +1,20 @@
+pub mod BothWays
+pub mod CanonLaws
+pub mod FaultLaws
+mod FaultVectors
+pub mod FieldLaws
+pub mod FoundBodies
+pub mod FoundEntries
+pub mod FoundLines
+pub mod FoundTexts
+pub mod OnLiterals
+pub mod OnlyBodies
+pub mod OnlyEntries
+pub mod OnlyTexts
+mod OutcomeVectors
+pub mod Repeats
+pub mod Runs
+pub mod SoFar
+mod TextVectors
+pub mod Totals
+pub mod Whole
