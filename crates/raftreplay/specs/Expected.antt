@@ -1,8 +1,12 @@
 -- The status and the text that each command is to give on each input.
-use Rattle.std.specs.Prelude.{ℕ, nat_lt, if◌then◌else◌, List, [], length, codes, Option, Some, None, Result, Ok, Err}
+use Rattle.std.specs.Prelude.{ℕ, zero, suc, ◌+◌, ◌-◌, nat_lt, if◌then◌else◌, List, [], ◌∷◌, length, codes, Option, Some, None, Result, Ok, Err}
+use Rattle.rs_field.specs.Forms.{word, number, line_text}
 use Rattle.rs_entry.specs.declared.input.Input.{Input}
 use Rattle.rs_text.specs.Reading.{Fault, read_text}
-use Rattle.rs_text.specs.FaultTexts.{syntax_text}
+use Rattle.rs_entry.specs.declared.law_fault.LawFault.{LawFault}
+use Rattle.rs_text.specs.FaultTexts.{syntax_text, fault_text}
+use Rattle.rs_check.specs.Laws.{check}
+use Rattle.rs_check.specs.Plans.{rows_of, stop_of}
 use Rattle.rs_text.specs.Outcomes.{outcome_text}
 use Rattle.raftreplay.specs.Fold.{is_served, outcome_of}
 use Rattle.raftreplay.specs.Words.{command_of}
@@ -20,7 +24,22 @@ pub record Answer : Type 0 where
 abbrev pub limit : ℕ
 limit = 67108864
 
--- what logs are answered that this version doesn't serve yet
+-- ---- on lawful logs: a row for each command
+
+-- how many entries the first addresses apply: each applies those from 6 to its stop index
+abbrev pub applied_below : Input → ℕ → ℕ
+applied_below x zero = 0
+applied_below x (suc address) = applied_below x address + (stop_of x address - 5)
+
+-- how many entries all addresses apply
+abbrev pub applied_entries : Input → ℕ
+applied_entries x = applied_below x (length (rows_of x))
+
+-- `lawful STORES ADDRESSES ENTRIES`
+abbrev pub lawful_text : Input → List ℕ
+lawful_text x = line_text (word "lawful" ∷ number (length x.stores) ∷ number (length (rows_of x)) ∷ number (applied_entries x) ∷ [])
+
+-- what logs are answered that this version doesn't fold yet
 abbrev pub unbuilt_text : List ℕ
 unbuilt_text = codes "unlawful unbuilt\n"
 
@@ -29,11 +48,21 @@ fold_answer x =
     if is_served x.stores then record { status = status.Done; text = outcome_text (outcome_of x) }
     else record { status = status.Unlawful; text = unbuilt_text }
 
--- on a well-formed input: a row for each command
-abbrev pub input_answer : Command → Input → Answer
-input_answer commands.Fold x = fold_answer x
+abbrev pub lawful_answer : Command → Input → Answer
+lawful_answer commands.Check x = record { status = status.Done; text = lawful_text x }
+lawful_answer commands.Fold x = fold_answer x
 
--- on what reading a text gives: its input, or its first fault
+-- ---- on words and bytes
+
+-- on logs and what their check gives: the first fault, or none
+abbrev pub checked_answer : Command → Input → Option LawFault → Answer
+checked_answer c x (Some fault) = record { status = status.Unlawful; text = fault_text fault }
+checked_answer c x None = lawful_answer c x
+
+abbrev pub input_answer : Command → Input → Answer
+input_answer c x = checked_answer c x (check x)
+
+-- on what reading a text gives: its logs, or its first fault
 abbrev pub read_answer : Command → Result Input Fault → Answer
 read_answer c (Ok x) = input_answer c x
 read_answer c (Err fault) = record { status = status.Syntax; text = syntax_text fault.0 fault.1 }

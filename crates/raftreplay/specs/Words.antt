@@ -11,7 +11,14 @@ use Rattle.raftreplay.specs.declared.words.Command.TheVariants as commands
 abbrev pub bytes_of : List (String Global) → List (List ℕ)
 bytes_of words = map string_bytes words
 
--- the command that the words are, if they are any: `fold`
+-- the command of one word: `check` or `fold`
+abbrev pub simple_command : List ℕ → Option Command
+simple_command word =
+    if bytes_eq word (codes "check") then Some commands.Check
+    else if bytes_eq word (codes "fold") then Some commands.Fold
+    else None
+
+-- the command that the words are, if they are any
 abbrev pub command_of : List (List ℕ) → Option Command
-command_of (word ∷ []) = if bytes_eq word (codes "fold") then Some commands.Fold else None
+command_of (word ∷ []) = simple_command word
 command_of _ = None

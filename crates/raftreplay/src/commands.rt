@@ -1,23 +1,26 @@
 ghost use Rattle.std.specs.Prelude.{◌≡◌, ◌≤◌, ◌↔◌, ℕ, [], Some, None, length, IfOk, IfSome};
 ghost use Rattle.rs_base.specs.Counts.{Rose};
+ghost use Rattle.rs_entry.specs.WellFormed.{WellFormed};
 ghost use Rattle.raftreplay.specs.Statuses.{IsWritten, IsSilent};
-ghost use Rattle.raftreplay.specs.Expected.{expected, answer_of, fold_answer, limit};
+ghost use Rattle.raftreplay.specs.Expected.{expected, answer_of, input_answer, fold_answer, limit};
 ghost use Rattle.raftreplay.specs.Kept.{KeepsTo, IsExpected};
 ghost use Rattle.raftreplay.specs.Words.{command_of, bytes_of};
 
 use crate::fold::{fold, is_served};
+use crate::lawful::write_lawful;
 use crate::status::Status;
 use crate::words::{Command, command_of};
 use rs_base::{ReadError, Sink, Source, WriteFault, read_all, write_all};
+use rs_check::{CheckError, check};
 use rs_entry::Input;
 use rs_key::NoMemory;
-use rs_text::{TextError, read_logs, write_outcome, write_syntax};
+use rs_text::{TextError, read_logs, write_fault, write_outcome, write_syntax};
 use std::alloc::Global;
 
 /// The greatest length of an input, in bytes.
 const LIMIT: usize = 67_108_864;
 
-/// The answer to logs that this version doesn't serve yet.
+/// The answer to lawful logs that this version doesn't fold yet.
 const UNBUILT: &str = "unlawful unbuilt\n";
 
 /// The status and the text that a command gives on the bytes of a source.
@@ -33,8 +36,32 @@ fn answer(alloc: Global, command: Command, bytes: &[u8]) -> Result<(Status, Vec<
             let text = write_syntax(alloc, line, kind)?;
             Ok((Status::Syntax, text))
         }
-        Ok(input) => match command {
-            Command::Fold => Ok(fold_answer(alloc, &input)?),
+        Ok(input) => Ok(input_answer(alloc, command, input)?),
+    }
+}
+
+/// The status and the text that a command gives on logs.
+fn input_answer(
+    alloc: Global,
+    command: Command,
+    input: Input,
+) -> Result<(Status, Vec<u8>), NoMemory>
+    requires { WellFormed input }
+    ensures answer { IfOk result (λ a. input_answer command input ≡ record { status = a.0; text = a.1.items }) }
+    ensures written { IfOk result (λ a. IsWritten a.0) }
+{
+    match check(input) {
+        Err(CheckError::NoMemory) => Err(NoMemory),
+        Err(CheckError::Law(fault)) => {
+            let text = write_fault(alloc, &fault)?;
+            Ok((Status::Unlawful, text))
+        }
+        Ok(plan) => match command {
+            Command::Check => {
+                let text = write_lawful(alloc, &plan)?;
+                Ok((Status::Done, text))
+            }
+            Command::Fold => Ok(fold_answer(alloc, plan.input())?),
         },
     }
 }
@@ -82,6 +109,26 @@ fn run<S: Source, K: Sink>(alloc: Global, command: Command, source: &mut S, sink
             Err(WriteFault) => Status::WriteFault,
         },
     }
+}
+
+/// Writes whether the logs that the source gives are lawful, and how much they are.
+pub fn check_command<S: Source, K: Sink>(alloc: Global, source: &mut S, sink: &mut K) -> Status
+    ensures kept { IfSome (S.left source.old) (λ bytes. KeepsTo (answer_of Command.Check bytes) result (K.taken sink.old) (K.taken sink.new)) }
+    ensures silent { IsSilent result → sink.new ≡ sink.old }
+    ensures to_end { IsWritten result → IfSome (S.left source.old) (λ _. S.left source.new ≡ Some []) }
+
+    // A failed read, or a failed write, comes only where one failed in this call. Where none did, the
+    // status is the expected one, or memory ran out.
+    ensures read_fault { result ≡ Status.ReadFault → Rose (S.faults source.old) (S.faults source.new) }
+    ensures write_fault { result ≡ Status.WriteFault → Rose (K.faults sink.old) (K.faults sink.new) }
+    ensures complete { ¬ Rose (S.faults source.old) (S.faults source.new) → ¬ Rose (K.faults sink.old) (K.faults sink.new)
+        → IfSome (S.left source.old) (λ bytes. IsExpected (answer_of Command.Check bytes) result) }
+
+    ensures not_usage { result ≡ Status.Usage → ⊥ }
+    ensures kept_read_faults { S.faults source.old ≤ S.faults source.new }
+    ensures kept_write_faults { K.faults sink.old ≤ K.faults sink.new }
+{
+    run(alloc, Command::Check, source, sink)
 }
 
 /// Writes what comes of the logs that the source gives.

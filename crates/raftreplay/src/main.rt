@@ -5,13 +5,14 @@
 
 mod commands;
 mod fold;
+mod lawful;
 mod status;
 mod streams;
 #[cfg(test)]
 mod tests;
 mod words;
 
-pub use commands::{command, fold_command};
+pub use commands::{check_command, command, fold_command};
 pub use status::Status;
 use std::io;
 use std::io::ErrorKind;

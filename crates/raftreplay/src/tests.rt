@@ -87,6 +87,13 @@ fn each_text_has_its_status_and_answer(rt: HostRuntime) -> Result<(), Fail> {
             Status::Unlawful,
             "unlawful unbuilt\n",
         ),
+        ("check", LOGS, Status::Done, "lawful 1 1 5\n"),
+        (
+            "check",
+            "raftreplay 1\nstore 1\nregion 1 - -\nlog 1\n6 1 1 rollback 5\nend\n",
+            Status::Unlawful,
+            "unlawful badrollback 1 1 6 5 normal\n",
+        ),
         ("", LOGS, Status::Usage, ""),
         ("fold x", LOGS, Status::Usage, ""),
         ("folds", LOGS, Status::Usage, ""),

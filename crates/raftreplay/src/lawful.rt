@@ -1,0 +1,45 @@
+//! The text of lawful logs: how many stores, addresses and applied entries there are.
+
+ghost use Rattle.std.specs.Prelude.{◌≡◌, ◌++◌, ◌-◌, ◌<◌, ◌^◌, IfOk, OnOk};
+ghost use Rattle.std.specs.Fmt.{decimal};
+ghost use Rattle.raftreplay.specs.Expected.{applied_entries, lawful_text};
+
+use itoa::Buffer;
+use rs_check::Plan;
+use rs_field::{Text, put_word};
+use rs_key::NoMemory;
+use std::alloc::Global;
+
+/// `lawful STORES ADDRESSES ENTRIES`.
+pub fn write_lawful(alloc: Global, plan: &Plan) -> Result<Vec<u8>, NoMemory>
+    ensures { IfOk result (λ text. text.items ≡ lawful_text plan.now) }
+{
+    let stores = plan.input().stores.len() as u64;
+    let mut text = Vec::new(alloc);
+    put_word(&mut text, "lawful")?;
+    stores.put(&mut text)?;
+    u64::from(plan.count()).put(&mut text)?;
+    put_word(&mut text, " ")?;
+    put_wide(&mut text, applied_entries(plan))?;
+    put_word(&mut text, "\n")?;
+    Ok(text)
+}
+
+/// How many entries are applied, over all addresses.
+fn applied_entries(plan: &Plan) -> u128
+    ensures { result ≡ applied_entries plan.now }
+{
+    let mut total: u128 = 0;
+    for address in 0..plan.count() {
+        total += u128::from(plan.stop(address).saturating_sub(5));
+    }
+    total
+}
+
+/// Appends the decimal digits of a number.
+fn put_wide(text: &mut Vec<u8>, n: u128) -> Result<(), NoMemory>
+    ensures { OnOk result (text.new.items ≡ text.old.items ++ decimal n) }
+{
+    let mut buffer = Buffer::new();
+    put_word(text, buffer.format(n))
+}
