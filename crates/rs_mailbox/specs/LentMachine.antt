@@ -1,0 +1,13 @@
+-- A turn lends its machine.
+use Rattle.std.specs.Borrow.{Lends, MutBor, Fml}
+use denote.RattleType.{RattleType}
+use Rattle.rs_mailcore.specs.declared.named.Named.{Ghosts}
+use Rattle.rs_mailbox.specs.declared.turn.Turn.{Turn}
+use Rattle.rs_mailbox.specs.contracts.turn.Turn.{the_row}
+
+module _ (F M P : RattleType) (m : Ghosts M.Denot P.Denot) where
+  abbrev pub with_machine : Turn F.Denot M.Denot P.Denot m → F.Denot → Turn F.Denot M.Denot P.Denot m
+  with_machine t x = record t { held = record t.held { lodging = record t.held.lodging { value = record t.held.lodging.value { machine = x } } } }
+
+  abbrev pub LendsMachine : MutBor (Turn F.Denot M.Denot P.Denot m) → MutBor F.Denot → Fml
+  LendsMachine s r = Lends (the_row F M P m) F s r (with_machine s.now)

@@ -1,0 +1,14 @@
+pub mod Deeds
+pub mod Order
+pub mod Steps
+pub mod Stood
+pub mod Making
+pub mod Hands
+pub mod Calls
+pub mod Lending
+pub mod InOrder
+pub mod Passes
+pub mod Berths
+pub mod Mail
+pub mod Stations
+pub mod LentMachine

@@ -1,0 +1,50 @@
+use crate::turn::Turn;
+use rs_mailcore::Fsm;
+
+/// Why a message was not sent. Nothing was pushed, and the message is handed back.
+#[derive(Debug, Drop)]
+pub enum SendError<M> {
+    /// The mailbox is closed.
+    Closed(M),
+    /// Memory ran out.
+    NoMemory(M),
+    /// The station has announced 2^50 messages.
+    Spent(M),
+}
+
+/// What came of a ticket.
+#[derive(Drop)]
+pub enum Taken<F: Fsm> {
+    /// The machine.
+    Machine(Turn<F>),
+    /// The state word was this one, not Notified.
+    Not(u64),
+}
+
+/// What came of a release.
+#[derive(Drop)]
+pub enum Released<F: Fsm> {
+    /// The machine is home, or another station has it by now.
+    Idle,
+    /// More was announced than handled, and the station has the machine again.
+    Again(Turn<F>),
+    /// The mailbox is closed, and the machine is the caller's.
+    Dropped(F),
+}
+
+/// The machine of a mailbox that is closed.
+#[derive(Debug, Drop)]
+pub struct Dropped<F> {
+    pub machine: F,
+}
+
+/// What a close found.
+#[derive(Debug, Drop)]
+pub enum Closed<F> {
+    /// The machine, which was home.
+    Machine(F),
+    /// Another station has the machine, and gets it for good as it gives it back.
+    Elsewhere,
+    /// It was closed before.
+    Already,
+}

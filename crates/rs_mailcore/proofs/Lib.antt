@@ -1,0 +1,9 @@
+pub mod Lists
+pub mod Keeps
+pub mod Joins
+pub mod Steps
+pub mod Orders
+pub mod Opening
+pub mod Kept
+pub mod Awake
+pub mod Seats
