@@ -1,5 +1,5 @@
 -- The status and the text that each command is to give on each input.
-use Rattle.std.specs.Prelude.{ℕ, zero, suc, ◌+◌, ◌-◌, nat_lt, if◌then◌else◌, List, [], ◌∷◌, length, codes, Option, Some, None, Result, Ok, Err}
+use Rattle.std.specs.Prelude.{ℕ, zero, suc, ◌+◌, ◌-◌, nat_lt, if◌then◌else◌, List, [], ◌∷◌, length, Option, Some, None, Result, Ok, Err}
 use Rattle.rs_field.specs.Forms.{word, number, line_text}
 use Rattle.rs_entry.specs.declared.input.Input.{Input}
 use Rattle.rs_text.specs.Reading.{Fault, read_text}
@@ -7,8 +7,8 @@ use Rattle.rs_entry.specs.declared.law_fault.LawFault.{LawFault}
 use Rattle.rs_text.specs.FaultTexts.{syntax_text, fault_text}
 use Rattle.rs_check.specs.Laws.{check}
 use Rattle.rs_check.specs.Plans.{rows_of, stop_of}
-use Rattle.rs_text.specs.Outcomes.{outcome_text}
-use Rattle.raftreplay.specs.Fold.{is_served, outcome_of}
+use Rattle.rs_text.specs.Outcomes.{outcome_text, history_text}
+use Rattle.rs_fold.specs.Outcomes.{outcome_of}
 use Rattle.raftreplay.specs.Words.{command_of}
 use Rattle.raftreplay.specs.declared.status.Status.{Status}
 use Rattle.raftreplay.specs.declared.status.Status.TheVariants as status
@@ -39,25 +39,18 @@ applied_entries x = applied_below x (length (rows_of x))
 abbrev pub lawful_text : Input → List ℕ
 lawful_text x = line_text (word "lawful" ∷ number (length x.stores) ∷ number (length (rows_of x)) ∷ number (applied_entries x) ∷ [])
 
--- what logs are answered that this version doesn't fold yet
-abbrev pub unbuilt_text : List ℕ
-unbuilt_text = codes "unlawful unbuilt\n"
-
-abbrev pub fold_answer : Input → Answer
-fold_answer x =
-    if is_served x.stores then record { status = status.Done; text = outcome_text (outcome_of x) }
-    else record { status = status.Unlawful; text = unbuilt_text }
-
-abbrev pub lawful_answer : Command → Input → Answer
-lawful_answer commands.Check x = record { status = status.Done; text = lawful_text x }
-lawful_answer commands.Fold x = fold_answer x
+-- `check`, `fold`, `history KEY`
+abbrev pub command_text : Command → Input → List ℕ
+command_text commands.Check x = lawful_text x
+command_text commands.Fold x = outcome_text (outcome_of x)
+command_text (commands.History key) x = history_text (outcome_of x) key
 
 -- ---- on words and bytes
 
 -- on logs and what their check gives: the first fault, or none
 abbrev pub checked_answer : Command → Input → Option LawFault → Answer
 checked_answer c x (Some fault) = record { status = status.Unlawful; text = fault_text fault }
-checked_answer c x None = lawful_answer c x
+checked_answer c x None = record { status = status.Done; text = command_text c x }
 
 abbrev pub input_answer : Command → Input → Answer
 input_answer c x = checked_answer c x (check x)

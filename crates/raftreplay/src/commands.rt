@@ -2,32 +2,29 @@ ghost use Rattle.std.specs.Prelude.{◌≡◌, ◌≤◌, ◌↔◌, ℕ, [], So
 ghost use Rattle.rs_base.specs.Counts.{Rose};
 ghost use Rattle.rs_entry.specs.WellFormed.{WellFormed};
 ghost use Rattle.raftreplay.specs.Statuses.{IsWritten, IsSilent};
-ghost use Rattle.raftreplay.specs.Expected.{expected, answer_of, input_answer, fold_answer, limit};
+ghost use Rattle.raftreplay.specs.Expected.{expected, answer_of, input_answer, command_text, limit};
 ghost use Rattle.raftreplay.specs.Kept.{KeepsTo, IsExpected};
 ghost use Rattle.raftreplay.specs.Words.{command_of, bytes_of};
 
-use crate::fold::{fold, is_served};
 use crate::lawful::write_lawful;
 use crate::status::Status;
 use crate::words::{Command, command_of};
 use rs_base::{ReadError, Sink, Source, WriteFault, read_all, write_all};
-use rs_check::{CheckError, check};
+use rs_check::{CheckError, Plan, check};
 use rs_entry::Input;
-use rs_key::NoMemory;
-use rs_text::{TextError, read_logs, write_fault, write_outcome, write_syntax};
+use rs_fold::fold;
+use rs_key::{Key, NoMemory, TryClone};
+use rs_text::{TextError, read_logs, write_fault, write_history, write_outcome, write_syntax};
 use std::alloc::Global;
 
 /// The greatest length of an input, in bytes.
 const LIMIT: usize = 67_108_864;
 
-/// The answer to lawful logs that this version doesn't fold yet.
-const UNBUILT: &str = "unlawful unbuilt\n";
-
 /// The status and the text that a command gives on the bytes of a source.
 #[tactic(auto, unfolding(crate::specs::Expected::answer_of))]
-fn answer(alloc: Global, command: Command, bytes: &[u8]) -> Result<(Status, Vec<u8>), NoMemory>
+fn answer(alloc: Global, command: &Command, bytes: &[u8]) -> Result<(Status, Vec<u8>), NoMemory>
     requires { length bytes.now ≤ limit }
-    ensures answer { IfOk result (λ a. answer_of command bytes.now ≡ record { status = a.0; text = a.1.items }) }
+    ensures answer { IfOk result (λ a. answer_of command.now bytes.now ≡ record { status = a.0; text = a.1.items }) }
     ensures written { IfOk result (λ a. IsWritten a.0) }
 {
     match read_logs(alloc, bytes) {
@@ -43,11 +40,11 @@ fn answer(alloc: Global, command: Command, bytes: &[u8]) -> Result<(Status, Vec<
 /// The status and the text that a command gives on logs.
 fn input_answer(
     alloc: Global,
-    command: Command,
+    command: &Command,
     input: Input,
 ) -> Result<(Status, Vec<u8>), NoMemory>
     requires { WellFormed input }
-    ensures answer { IfOk result (λ a. input_answer command input ≡ record { status = a.0; text = a.1.items }) }
+    ensures answer { IfOk result (λ a. input_answer command.now input ≡ record { status = a.0; text = a.1.items }) }
     ensures written { IfOk result (λ a. IsWritten a.0) }
 {
     match check(input) {
@@ -56,32 +53,33 @@ fn input_answer(
             let text = write_fault(alloc, &fault)?;
             Ok((Status::Unlawful, text))
         }
-        Ok(plan) => match command {
-            Command::Check => {
-                let text = write_lawful(alloc, &plan)?;
-                Ok((Status::Done, text))
-            }
-            Command::Fold => Ok(fold_answer(alloc, plan.input())?),
-        },
+        Ok(plan) => {
+            let text = command_text(alloc, command, &plan)?;
+            Ok((Status::Done, text))
+        }
     }
 }
 
-fn fold_answer(alloc: Global, input: &Input) -> Result<(Status, Vec<u8>), NoMemory>
-    ensures answer { IfOk result (λ a. fold_answer input.now ≡ record { status = a.0; text = a.1.items }) }
-    ensures written { IfOk result (λ a. IsWritten a.0) }
+/// The text that a command gives on lawful logs.
+fn command_text(alloc: Global, command: &Command, plan: &Plan) -> Result<Vec<u8>, NoMemory>
+    ensures { IfOk result (λ text. text.items ≡ command_text command.now plan.now) }
 {
-    if !is_served(input) {
-        let text = Vec::from_slice(alloc, UNBUILT.as_bytes())?;
-        return Ok((Status::Unlawful, text));
+    match command {
+        Command::Check => Ok(write_lawful(alloc, plan)?),
+        Command::Fold => {
+            let outcome = fold(alloc, plan)?;
+            Ok(write_outcome(alloc, &outcome)?)
+        }
+        Command::History(key) => {
+            let outcome = fold(alloc, plan)?;
+            Ok(write_history(alloc, &outcome, key)?)
+        }
     }
-    let outcome = fold(alloc, input)?;
-    let text = write_outcome(alloc, &outcome)?;
-    Ok((Status::Done, text))
 }
 
 /// Reads a source to its end, and writes what the command gives on its bytes.
-fn run<S: Source, K: Sink>(alloc: Global, command: Command, source: &mut S, sink: &mut K) -> Status
-    ensures kept { IfSome (S.left source.old) (λ bytes. KeepsTo (answer_of command bytes) result (K.taken sink.old) (K.taken sink.new)) }
+fn run<S: Source, K: Sink>(alloc: Global, command: &Command, source: &mut S, sink: &mut K) -> Status
+    ensures kept { IfSome (S.left source.old) (λ bytes. KeepsTo (answer_of command.now bytes) result (K.taken sink.old) (K.taken sink.new)) }
     ensures silent { IsSilent result → sink.new ≡ sink.old }
     ensures to_end { IsWritten result → IfSome (S.left source.old) (λ _. S.left source.new ≡ Some []) }
 
@@ -90,7 +88,7 @@ fn run<S: Source, K: Sink>(alloc: Global, command: Command, source: &mut S, sink
     ensures read_fault { result ≡ Status.ReadFault → Rose (S.faults source.old) (S.faults source.new) }
     ensures write_fault { result ≡ Status.WriteFault → Rose (K.faults sink.old) (K.faults sink.new) }
     ensures complete { ¬ Rose (S.faults source.old) (S.faults source.new) → ¬ Rose (K.faults sink.old) (K.faults sink.new)
-        → IfSome (S.left source.old) (λ bytes. IsExpected (answer_of command bytes) result) }
+        → IfSome (S.left source.old) (λ bytes. IsExpected (answer_of command.now bytes) result) }
 
     ensures not_usage { result ≡ Status.Usage → ⊥ }
     ensures kept_read_faults { S.faults source.old ≤ S.faults source.new }
@@ -128,7 +126,7 @@ pub fn check_command<S: Source, K: Sink>(alloc: Global, source: &mut S, sink: &m
     ensures kept_read_faults { S.faults source.old ≤ S.faults source.new }
     ensures kept_write_faults { K.faults sink.old ≤ K.faults sink.new }
 {
-    run(alloc, Command::Check, source, sink)
+    run(alloc, &Command::Check, source, sink)
 }
 
 /// Writes what comes of the logs that the source gives.
@@ -148,7 +146,35 @@ pub fn fold_command<S: Source, K: Sink>(alloc: Global, source: &mut S, sink: &mu
     ensures kept_read_faults { S.faults source.old ≤ S.faults source.new }
     ensures kept_write_faults { K.faults sink.old ≤ K.faults sink.new }
 {
-    run(alloc, Command::Fold, source, sink)
+    run(alloc, &Command::Fold, source, sink)
+}
+
+/// Writes, for each store, the writes of the key in their order.
+pub fn history_command<S: Source, K: Sink>(
+    alloc: Global,
+    key: &Key,
+    source: &mut S,
+    sink: &mut K,
+) -> Status
+    ensures kept { IfSome (S.left source.old) (λ bytes. KeepsTo (answer_of (Command.History key.now) bytes) result (K.taken sink.old) (K.taken sink.new)) }
+    ensures silent { IsSilent result → sink.new ≡ sink.old }
+    ensures to_end { IsWritten result → IfSome (S.left source.old) (λ _. S.left source.new ≡ Some []) }
+
+    // A failed read, or a failed write, comes only where one failed in this call. Where none did, the
+    // status is the expected one, or memory ran out.
+    ensures read_fault { result ≡ Status.ReadFault → Rose (S.faults source.old) (S.faults source.new) }
+    ensures write_fault { result ≡ Status.WriteFault → Rose (K.faults sink.old) (K.faults sink.new) }
+    ensures complete { ¬ Rose (S.faults source.old) (S.faults source.new) → ¬ Rose (K.faults sink.old) (K.faults sink.new)
+        → IfSome (S.left source.old) (λ bytes. IsExpected (answer_of (Command.History key.now) bytes) result) }
+
+    ensures not_usage { result ≡ Status.Usage → ⊥ }
+    ensures kept_read_faults { S.faults source.old ≤ S.faults source.new }
+    ensures kept_write_faults { K.faults sink.old ≤ K.faults sink.new }
+{
+    match key.try_clone() {
+        Err(NoMemory) => Status::NoMemory,
+        Ok(key) => run(alloc, &Command::History(key), source, sink),
+    }
 }
 
 /// Does all that the program does.
@@ -176,8 +202,9 @@ pub fn command<S: Source, K: Sink>(
     ensures kept_read_faults { S.faults source.old ≤ S.faults source.new }
     ensures kept_write_faults { K.faults sink.old ≤ K.faults sink.new }
 {
-    match command_of(words) {
-        None => Status::Usage,
-        Some(command) => run(alloc, command, source, sink),
+    match command_of(alloc, words) {
+        Err(NoMemory) => Status::NoMemory,
+        Ok(None) => Status::Usage,
+        Ok(Some(command)) => run(alloc, &command, source, sink),
     }
 }

@@ -4,7 +4,7 @@
 #![tactic(auto)]
 
 mod commands;
-mod fold;
+mod key_word;
 mod lawful;
 mod status;
 mod streams;
@@ -12,7 +12,7 @@ mod streams;
 mod tests;
 mod words;
 
-pub use commands::{check_command, command, fold_command};
+pub use commands::{check_command, command, fold_command, history_command};
 pub use status::Status;
 use std::io;
 use std::io::ErrorKind;

@@ -84,8 +84,8 @@ fn each_text_has_its_status_and_answer(rt: HostRuntime) -> Result<(), Fail> {
         (
             "fold",
             "raftreplay 1\nstore 1\nstore 2\nend\n",
-            Status::Unlawful,
-            "unlawful unbuilt\n",
+            Status::Done,
+            "store 1\nstore 2\n",
         ),
         ("check", LOGS, Status::Done, "lawful 1 1 5\n"),
         (
@@ -94,6 +94,16 @@ fn each_text_has_its_status_and_answer(rt: HostRuntime) -> Result<(), Fail> {
             Status::Unlawful,
             "unlawful badrollback 1 1 6 5 normal\n",
         ),
+        (
+            "history 62",
+            LOGS,
+            Status::Done,
+            "store 3\nhistory 62 7/7=- 7/9!\n",
+        ),
+        ("history 6D", LOGS, Status::Done, "store 3\nhistory 6d\n"),
+        ("history 6", LOGS, Status::Usage, ""),
+        ("history 6x", LOGS, Status::Usage, ""),
+        ("history", LOGS, Status::Usage, ""),
         ("", LOGS, Status::Usage, ""),
         ("fold x", LOGS, Status::Usage, ""),
         ("folds", LOGS, Status::Usage, ""),

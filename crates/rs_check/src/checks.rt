@@ -98,14 +98,14 @@ fn run_one(alloc: Global, rows: &mut Vec<Row>, store: &Store) -> Result<Option<L
     ensures rows { IfOk result (λ fault. fault ≡ None → rows.new.items ≡ rows.old.items ++ store_rows store.now) }
 {
     let StoreRun {
-        ids,
+        indexed,
         regions,
         fault,
     } = run_store(alloc, store)?;
     if let Some(fault) = fault {
         return Ok(Some(law_of(store.id, fault)));
     }
-    add_rows(rows, store, ids.as_slice(), &regions)?;
+    add_rows(rows, &indexed, indexed.ids(), &regions)?;
     Ok(None)
 }
 

@@ -13,7 +13,9 @@ mod plan;
 mod reused;
 mod rows;
 mod statements;
+mod table;
 
 pub use checks::{CheckError, check};
 pub use plan::{Maker, Plan};
 pub use rs_order::Line;
+pub use table::RegionTable;

@@ -1,5 +1,7 @@
 ghost use Rattle.std.specs.Prelude.{◌≡◌, ℕ, ◌<◌, ◌≤◌, Option, Some, None};
 ghost use Rattle.std.specs.Option.{option_copied, option_map};
+ghost use Rattle.std.specs.List.{All};
+ghost use Rattle.rs_order.specs.Indexes.{AreRising, log_ids};
 ghost use Rattle.rs_order.specs.Runs.{line_entry};
 ghost use Rattle.rs_check.specs.Lines.{carried_by, carried_in, carried_at, entry_in, line_in};
 
@@ -49,7 +51,8 @@ fn carried_at(region: u64, index: u64, logs: &[Log]) -> Option<&Carried>
 
 /// The region's entry at the index, on the store.
 pub fn entry_in(store: &Store, region: u64, index: u64) -> Option<Line<'_>>
-    requires { 0 < index }
+    requires rising { AreRising (log_ids store.now) }
+    requires from { 0 < index }
     ensures { option_map line_entry result ≡ entry_in store.now region index }
 {
     if let Some(entry) = own_next(own(store, region), index - 1) {
@@ -63,7 +66,8 @@ pub fn entry_in(store: &Store, region: u64, index: u64) -> Option<Line<'_>>
 
 /// The region's entry at the index, on the store with this id.
 pub fn line_of(stores: &[Store], store: u64, region: u64, index: u64) -> Option<Line<'_>>
-    requires { 0 < index }
+    requires rising { All (λ s. AreRising (log_ids s)) stores.now }
+    requires from { 0 < index }
     ensures { option_map line_entry result ≡ line_in store region index stores.now }
 {
     for one in stores {

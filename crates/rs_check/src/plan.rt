@@ -1,5 +1,6 @@
 ghost use Rattle.std.specs.Prelude.{◌≡◌, ℕ, ◌+◌, ◌-◌, ◌<◌, ◌≤◌, ◌^◌, Option, Some, None, length, slice_get, IfOk, IfSome, position};
 ghost use Rattle.std.specs.Option.{option_map};
+ghost use Rattle.rs_entry.specs.WellFormed.{WellFormed};
 ghost use Rattle.rs_order.specs.Runs.{line_entry};
 ghost use Rattle.rs_check.specs.Laws.{check};
 ghost use Rattle.rs_check.specs.Lines.{line_at};
@@ -33,6 +34,7 @@ pub struct Plan {
 impl Model for Plan {
     ghost use Rattle.std.specs.Prelude.{◌≡◌, ◌<◌, ◌^◌, None, length};
     ghost use Rattle.rs_entry.specs.declared.input.Input.{Input};
+    ghost use Rattle.rs_entry.specs.WellFormed.{WellFormed};
     ghost use Rattle.rs_check.specs.Plans.{rows_of};
     ghost use Rattle.rs_check.specs.Laws.{check};
 
@@ -40,7 +42,7 @@ impl Model for Plan {
 
     ghost view = { λ p. p.input };
 
-    ghost invariant = { λ p. (p.rows.items ≡ rows_of p.input) × (check p.input ≡ None) × (length p.rows.items < 2 ^ 32) };
+    ghost invariant = { λ p. (p.rows.items ≡ rows_of p.input) × (check p.input ≡ None) × (length p.rows.items < 2 ^ 32) × WellFormed p.input };
 }
 
 impl Plan {
@@ -48,6 +50,7 @@ impl Plan {
     pub(crate) fn new(input: Input, rows: Vec<Row>) -> Result<Plan, NoMemory>
         requires rows { rows.items ≡ rows_of input }
         requires lawful { check input ≡ None }
+        requires formed { WellFormed input }
         ensures { IfOk result (λ plan. plan ≡ input) }
     {
         if rows.len() > u32::MAX as usize {
@@ -59,6 +62,7 @@ impl Plan {
     pub fn input(&self) -> &Input
         ensures value { result.now ≡ self.now }
         ensures lawful { check self.now ≡ None }
+        ensures formed { WellFormed self.now }
     {
         &self.input
     }
@@ -136,6 +140,7 @@ impl Plan {
     }
 
     /// The region's entry at the index: that of the store's own log, else the first that one of its commits carries.
+    #[tactic(auto, using(crate::proofs::Wellness::rising_logs))]
     pub fn entry(&self, a: u32, index: u64) -> Option<Line<'_>>
         requires address { a < length (rows_of self.now) }
         requires index { 6 ≤ index }

@@ -2,9 +2,9 @@ ghost use Rattle.std.specs.Prelude.{◌≡◌, [], ◌∷◌, ◌++◌, Some, If
 ghost use Rattle.rs_order.specs.Runs.{seen};
 ghost use Rattle.rs_check.specs.Plans.{row_of, rows_in};
 
-use rs_entry::{Mode, Store};
+use rs_entry::Mode;
 use rs_key::{NoMemory, Rows, TryClone};
-use rs_order::{Made, Origin, Regions, own};
+use rs_order::{IndexedStore, Made, Origin, Regions};
 
 /// What a plan keeps of a region on a store.
 #[derive(Debug, Drop)]
@@ -23,22 +23,27 @@ pub struct Row {
 
 /// Adds the row of the region, where the store made it.
 #[tactic(auto, using(crate::proofs::PlanLaws::row_none, crate::proofs::PlanLaws::row_some))]
-fn add_row(rows: &mut Vec<Row>, store: &Store, id: u64, regions: &Regions) -> Result<(), NoMemory>
-    ensures { OnOk result (rows.new.items ≡ rows.old.items ++ rows_in store.now (seen regions.now) (id ∷ [])) }
+fn add_row(
+    rows: &mut Vec<Row>,
+    indexed: &IndexedStore<'_>,
+    id: u64,
+    regions: &Regions,
+) -> Result<(), NoMemory>
+    ensures { OnOk result (rows.new.items ≡ rows.old.items ++ rows_in indexed.now (seen regions.now) (id ∷ [])) }
 {
     let Some(made) = regions.get(id) else {
         return Ok(());
     };
-    rows.push(row_of(store, id, made)?)?;
+    rows.push(row_of(indexed, id, made)?)?;
     Ok(())
 }
 
-fn row_of(store: &Store, id: u64, made: &Made) -> Result<Row, NoMemory>
-    ensures { IfOk result (λ row. Some row ≡ row_of store.now id (Some made.now)) }
+fn row_of(indexed: &IndexedStore<'_>, id: u64, made: &Made) -> Result<Row, NoMemory>
+    ensures { IfOk result (λ row. Some row ≡ row_of indexed.now id (Some made.now)) }
 {
-    let log = own(store, id);
+    let log = indexed.own(id);
     Ok(Row {
-        store: store.id,
+        store: indexed.store().id,
         region: id,
         origin: made.origin,
         stop: made.applied,
@@ -51,14 +56,14 @@ fn row_of(store: &Store, id: u64, made: &Made) -> Result<Row, NoMemory>
 /// Adds the rows of the regions that the store made.
 pub fn add_rows(
     rows: &mut Vec<Row>,
-    store: &Store,
+    indexed: &IndexedStore<'_>,
     ids: &[u64],
     regions: &Regions,
 ) -> Result<(), NoMemory>
-    ensures { OnOk result (rows.new.items ≡ rows.old.items ++ rows_in store.now (seen regions.now) ids.now) }
+    ensures { OnOk result (rows.new.items ≡ rows.old.items ++ rows_in indexed.now (seen regions.now) ids.now) }
 {
     for id in ids {
-        add_row(rows, store, *id, regions)?;
+        add_row(rows, indexed, *id, regions)?;
     }
     Ok(())
 }

@@ -1,10 +1,10 @@
 -- Where the first field of a line and the first line of a text end.
-use Rattle.std.proofs.Common.{◌≡◌, ℕ, suc, ◌+◌, ◌<◌, Bool, true, false, not, eqb, ltb, List, [], ◌∷◌, length, take, drop, refl, sym, ap, ◌∙◌, arith}
-use Rattle.std.specs.List.{slice_split, filter, position_or_len}
+use Rattle.std.proofs.Common.{◌≡◌, ℕ, suc, ◌+◌, ◌<◌, Bool, true, false, not, eqb, ltb, List, [], ◌∷◌, length, take, drop, refl, sym, ap, ◌∙◌, arith, zero, ◌-◌, ◌≤◌, ◌||◌, get_or, inl, inr}
+use Rattle.std.specs.List.{slice_split, filter, position_or_len, list_any}
 use Rattle.std.proofs.lemmas.List.Sums.{fails_before_first}
 use Rattle.std.proofs.lemmas.List.Splits.{slice_split_none, slice_split_first}
-use Rattle.std.proofs.lemmas.List.{length-take}
-use Rattle.std.proofs.lemmas.Bool.{lt-ltb}
+use Rattle.std.proofs.lemmas.List.{length-take, length-drop, get_or-take, get_or-drop}
+use Rattle.std.proofs.lemmas.Bool.{lt-ltb, cases_lt}
 use Rattle.rs_field.specs.Lines.{fields_of, parts_of}
 
 one : (n : ℕ) → 1 + n ≡ suc n
@@ -90,3 +90,28 @@ field_after line rest n r lt e =
 pub some_parts : (text : List ℕ) → parts_of text ≡ take (position_or_len (λ b. eqb b 10) text) text ∷ drop 1 (parts_of text)
 unfolding parts_of
 some_parts text = front (λ b. eqb b 10) text
+
+-- ---- bytes that are looked at together
+
+or_false : (x y : Bool) → (x || y) ≡ false → (x ≡ false) × (y ≡ false)
+or_false true y h = absurd cc
+or_false false y h = (refl, h)
+
+none_of : (p : ℕ → Bool) (xs : List ℕ) → list_any p xs ≡ false → (k : ℕ) → k < length xs → p (get_or xs k 0) ≡ false
+none_of p [] h k lt = absurd (omega arith)
+none_of p (x ∷ xs) h zero lt = (or_false (p x) (list_any p xs) h).0
+none_of p (x ∷ xs) h (suc k) lt = none_of p xs (or_false (p x) (list_any p xs) h).1 k (omega arith)
+
+-- no element before i passes, and none of the next n
+pub none_more : (p : ℕ → Bool) (xs : List ℕ) (i n : ℕ) → i + n ≤ length xs → ((k : ℕ) → k < i → p (get_or xs k 0) ≡ false) → list_any p (take n (drop i xs)) ≡ false → (k : ℕ) → k < i + n → p (get_or xs k 0) ≡ false
+none_more p xs i n fits before none k lt =
+    elim (cases_lt k i) [
+      | inl below ↦ before k below
+      | inr here ↦
+          let size : k - i < length (take n (drop i xs)) = omega (arith, length-take n (drop i xs), length-drop i xs) in
+          let one = none_of p (take n (drop i xs)) none (k - i) size in
+          let near : k - i < n = omega arith in
+          let at : i + (k - i) ≡ k = omega arith in
+          let same : get_or (take n (drop i xs)) (k - i) 0 ≡ get_or xs k 0 = get_or-take n (drop i xs) (k - i) 0 near ∙ get_or-drop i xs (k - i) 0 ∙ ap (λ (j : ℕ). get_or xs j 0) at in
+          ap p (sym same) ∙ one
+    ]

@@ -1,10 +1,12 @@
 -- How lines are written, and which other lines are read as the same.
 use Prim.Native.String.{String}
-use Rattle.std.specs.Prelude.{◌≡◌, ℕ, List, [], ◌∷◌, ◌++◌, codes, Option, Some, None, Ok}
+use Rattle.std.specs.Prelude.{◌≡◌, ℕ, List, [], ◌∷◌, ◌++◌, codes, Option, Some, None, Result, Ok, OnOk}
 use Rattle.std.specs.List.{flat_map}
 use Rattle.std.specs.Fmt.{decimal}
 use Rattle.hex.specs.Hex.{encode_lower, decode_of}
+use Rattle.std.specs.declared.vec.Vec.{Vec}
 use Rattle.rs_key.specs.Ranges.{Bounds}
+use Rattle.rs_key.specs.declared.no_memory.NoMemory.{NoMemory}
 use Rattle.rs_key.specs.declared.epoch.Epoch.{Epoch}
 use Rattle.rs_field.specs.Lines.{fields_of}
 
@@ -71,6 +73,10 @@ line_text forms = fields_text forms ++ 10 ∷ []
 -- lines, one after another
 abbrev pub lines_text : List Forms → List ℕ
 lines_text lines = flat_map line_text lines
+
+-- where the call went well, the bytes stand at the end
+abbrev pub Appends : {A : Type 0} → Result Unit NoMemory → Vec ℕ A → Vec ℕ A → List ℕ → Type 0
+Appends result old new bytes = OnOk result (new.items ≡ old.items ++ bytes)
 
 -- ---- what is read as the same
 

@@ -1,7 +1,10 @@
 -- What a function of the code answered, against what reading gives: the same, unless memory ran out.
-use Rattle.std.specs.Prelude.{◌≡◌, ℕ, List, Result, Ok, Err}
+use Rattle.std.specs.Prelude.{◌≡◌, ℕ, List, Result, Ok, Err, IsErr}
 use Rattle.std.specs.Borrow.{Bor}
+use Rattle.std.specs.declared.vec.Vec.{Vec}
+use Rattle.hex.specs.declared.error.FromHexError.{FromHexError}
 use Rattle.rs_field.specs.declared.fault.TextKind.{TextKind}
+use Rattle.rs_field.specs.declared.fault.TextKind.TheVariants.{BadKey}
 use Rattle.rs_field.specs.declared.fault.LineError.{LineError}
 use Rattle.rs_field.specs.declared.fault.LineError.TheVariants as errors
 use Rattle.rs_field.specs.Fields.{Fields, Read}
@@ -30,3 +33,9 @@ TakesPlain (Err kind) after read = read ≡ Err kind
 abbrev pub TakesField : Result (Bor (List ℕ)) TextKind → Fields → Read (List ℕ) → Type 0
 TakesField (Ok f) after read = read ≡ Ok (f.now, after)
 TakesField (Err kind) after read = read ≡ Err kind
+
+-- the bytes that digits spell, or that they spell none: BadKey
+abbrev pub Decodes : {A : Type 0} → Result (Vec ℕ A) LineError → Result (List ℕ) FromHexError → Type 0
+Decodes (Ok bytes) read = read ≡ Ok bytes.items
+Decodes (Err errors.NoMemory) read = Unit {0}
+Decodes (Err (errors.Bad kind)) read = (kind ≡ BadKey) × IsErr read

@@ -1,20 +1,70 @@
 //! Where fields and lines end.
 
-ghost use Rattle.std.specs.Prelude.{◌≡◌, ◌==◌, ◌∷◌, ◌≤◌, ◌<◌, [], length, not, MatchOption, IfSome};
-ghost use Rattle.std.specs.List.{position_or_len};
+ghost use Rattle.std.specs.Prelude.{◌≡◌, ◌==◌, ◌∷◌, ◌≤◌, ◌<◌, ℕ, [], length, not, false, slice_index, MatchOption, IfSome};
+ghost use Rattle.std.specs.List.{position_or_len, list_any};
 ghost use Rattle.rs_field.specs.Lines.{parts_of, fields_of};
+
+/// How many bytes are looked at together.
+const BLOCK: usize = 32;
+
+/// How long a field is before it is looked through in blocks.
+const SHORT: usize = 64;
+
+/// Whether the byte is among these. All of them are looked at, so that a processor can compare many at once.
+fn has(block: &[u8], byte: u8) -> bool
+    ensures { result ≡ list_any (λ b. b == byte) block.now }
+{
+    let mut found = false;
+    for b in block {
+        found |= *b == byte;
+    }
+    found
+}
+
+/// The end of the blocks at the front that don't have the byte.
+fn blocks_without(bytes: &[u8], byte: u8) -> usize
+    ensures within { result ≤ length bytes.now }
+    ensures none { (k : ℕ) → k < result → (slice_index bytes.now k == byte) ≡ false }
+{
+    let mut end = 0;
+    'skip: while bytes.len() - end >= BLOCK {
+        if has(&bytes[end..end + BLOCK], byte) {
+            return end;
+        }
+        end += BLOCK;
+    }
+    end
+}
 
 /// Where the byte first stands, or the length where it doesn't.
 fn place_of(bytes: &[u8], byte: u8) -> usize
     ensures place { result ≡ position_or_len (λ b. b == byte) bytes.now }
     ensures bound { result ≤ length bytes.now }
 {
-    for (i, b) in bytes.iter().enumerate() {
-        if *b == byte {
+    let start = blocks_without(bytes, byte);
+    for i in start..bytes.len() {
+        if bytes[i] == byte {
             return i;
         }
     }
     bytes.len()
+}
+
+/// Where the first space stands, or the length where there is none.
+fn field_end(bytes: &[u8]) -> usize
+    ensures place { result ≡ position_or_len (λ b. b == 32) bytes.now }
+    ensures bound { result ≤ length bytes.now }
+{
+    let near = bytes.len().min(SHORT);
+    for i in 0..near {
+        if bytes[i] == b' ' {
+            return i;
+        }
+    }
+    if near == bytes.len() {
+        return near;
+    }
+    place_of(bytes, b' ')
 }
 
 /// How many spaces stand at the front.
@@ -38,7 +88,7 @@ pub fn next_field(line: &[u8]) -> Option<(&[u8], &[u8])>
     if rest.is_empty() {
         return None;
     }
-    let (field, after) = rest.split_at(place_of(rest, b' '));
+    let (field, after) = rest.split_at(field_end(rest));
     Some((field, after))
 }
 

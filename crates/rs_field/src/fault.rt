@@ -1,4 +1,5 @@
 use rs_key::NoMemory;
+use std::alloc::{AllocError, AllocFailed};
 
 /// What is wrong with a text at its first bad line.
 #[derive(Clone, Copy, Debug, PartialEq, Eq)]
@@ -35,6 +36,28 @@ impl From<NoMemory> for LineError {
     ghost from_gives = { λ _ e. e ≡ why.NoMemory };
 
     fn from(_e: NoMemory) -> LineError {
+        LineError::NoMemory
+    }
+}
+
+impl From<AllocError> for LineError {
+    ghost use Rattle.std.specs.Prelude.{◌≡◌};
+    ghost use Rattle.rs_field.specs.declared.fault.LineError.TheVariants as why;
+
+    ghost from_gives = { λ _ e. e ≡ why.NoMemory };
+
+    fn from(_e: AllocError) -> LineError {
+        LineError::NoMemory
+    }
+}
+
+impl<T: Drop> From<AllocFailed<T>> for LineError {
+    ghost use Rattle.std.specs.Prelude.{◌≡◌};
+    ghost use Rattle.rs_field.specs.declared.fault.LineError.TheVariants as why;
+
+    ghost from_gives = { λ _ e. e ≡ why.NoMemory };
+
+    fn from(_e: AllocFailed<T>) -> LineError {
         LineError::NoMemory
     }
 }

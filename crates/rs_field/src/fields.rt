@@ -36,7 +36,7 @@ impl<'a> Fields<'a> {
     }
 
     /// Takes the next field; none exactly where no field is left.
-    pub fn next(&mut self) -> Option<&'a [u8]>
+    pub fn next_field(&mut self) -> Option<&'a [u8]>
         ensures { MatchOption result ((self.old ≡ []) × (self.new ≡ [])) (λ f. self.old ≡ f.now ∷ self.new) }
     {
         let (field, rest) = next_field(self.rest)?;
@@ -48,7 +48,7 @@ impl<'a> Fields<'a> {
     pub fn end(&mut self) -> Result<(), TextKind>
         ensures { result ≡ end_at self.old }
     {
-        match self.next() {
+        match self.next_field() {
             None => Ok(()),
             Some(_) => Err(TextKind::BadLine),
         }
@@ -58,7 +58,7 @@ impl<'a> Fields<'a> {
     pub fn field(&mut self) -> Result<&'a [u8], TextKind>
         ensures { TakesField result self.new (field_at self.old) }
     {
-        self.next().ok_or(TextKind::BadLine)
+        self.next_field().ok_or(TextKind::BadLine)
     }
 
     /// Takes a number.

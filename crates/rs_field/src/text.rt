@@ -1,7 +1,7 @@
-ghost use Rattle.std.specs.Prelude.{◌≡◌, ◌++◌, ◌∷◌, [], OnOk, map};
+ghost use Rattle.std.specs.Prelude.{◌∷◌, [], map};
 ghost use Rattle.std.specs.Fmt.{decimal};
 ghost use Rattle.hex.specs.Hex.{encode_lower};
-ghost use Rattle.rs_field.specs.Forms.{Exact, Hex, number, bound, value, bounds, epoch, field_text, more_text};
+ghost use Rattle.rs_field.specs.Forms.{Appends, Exact, Hex, number, bound, value, bounds, epoch, field_text, more_text};
 
 use itoa::Buffer;
 use rs_key::{Epoch, Key, NoMemory, Range, Rows, Value};
@@ -15,12 +15,12 @@ pub trait Text {
 
     /// Appends the fields, each after one space. Where memory runs out a part of them may have been appended.
     fn put(&self, out: &mut Vec<u8>) -> Result<(), NoMemory>
-        ensures { OnOk result (out.new.items ≡ out.old.items ++ more_text (fields self.now)) };
+        ensures { Appends result out.old out.new (more_text (fields self.now)) };
 }
 
 /// Appends the bytes of a word.
 pub fn put_word(out: &mut Vec<u8>, word: &str) -> Result<(), NoMemory>
-    ensures { OnOk result (out.new.items ≡ out.old.items ++ word.now) }
+    ensures { Appends result out.old out.new word.now }
 {
     out.extend_from_slice(word.as_bytes())?;
     Ok(())
@@ -28,7 +28,7 @@ pub fn put_word(out: &mut Vec<u8>, word: &str) -> Result<(), NoMemory>
 
 /// Appends the decimal digits of a number.
 pub fn put_number(out: &mut Vec<u8>, n: u64) -> Result<(), NoMemory>
-    ensures { OnOk result (out.new.items ≡ out.old.items ++ decimal n) }
+    ensures { Appends result out.old out.new (decimal n) }
 {
     let mut buffer = Buffer::new();
     put_word(out, buffer.format(n))
@@ -36,7 +36,7 @@ pub fn put_number(out: &mut Vec<u8>, n: u64) -> Result<(), NoMemory>
 
 /// Appends bytes in hexadecimal digits of lower case.
 pub fn put_hex(out: &mut Vec<u8>, bytes: &[u8]) -> Result<(), NoMemory>
-    ensures { OnOk result (out.new.items ≡ out.old.items ++ encode_lower bytes.now) }
+    ensures { Appends result out.old out.new (encode_lower bytes.now) }
 {
     let digits = hex::encode(*out.allocator(), bytes)?;
     put_word(out, digits.as_str())
@@ -44,7 +44,7 @@ pub fn put_hex(out: &mut Vec<u8>, bytes: &[u8]) -> Result<(), NoMemory>
 
 /// Appends a value in hexadecimal digits, or `-` for the empty one.
 pub fn put_value(out: &mut Vec<u8>, v: &Value) -> Result<(), NoMemory>
-    ensures { OnOk result (out.new.items ≡ out.old.items ++ field_text (value v.now)) }
+    ensures { Appends result out.old out.new (field_text (value v.now)) }
 {
     match v.as_bytes() {
         [] => put_word(out, "-"),
@@ -54,7 +54,7 @@ pub fn put_value(out: &mut Vec<u8>, v: &Value) -> Result<(), NoMemory>
 
 /// Appends a word and the fields that it names, each after one space.
 pub fn put_named<T: Text>(out: &mut Vec<u8>, name: &str, named: &T) -> Result<(), NoMemory>
-    ensures { OnOk result (out.new.items ≡ out.old.items ++ more_text (Exact name.now ∷ T.fields named.now)) }
+    ensures { Appends result out.old out.new (more_text (Exact name.now ∷ T.fields named.now)) }
 {
     put_word(out, " ")?;
     put_word(out, name)?;
@@ -63,7 +63,7 @@ pub fn put_named<T: Text>(out: &mut Vec<u8>, name: &str, named: &T) -> Result<()
 
 /// Appends numbers, each after one space.
 pub fn put_numbers(out: &mut Vec<u8>, numbers: &[u64]) -> Result<(), NoMemory>
-    ensures { OnOk result (out.new.items ≡ out.old.items ++ more_text (map number numbers.now)) }
+    ensures { Appends result out.old out.new (more_text (map number numbers.now)) }
 {
     for n in numbers {
         n.put(out)?;

@@ -1,5 +1,5 @@
 -- The histories of sorted writes are their runs, and a stable sort changes no history.
-use Rattle.std.proofs.Common.{◌≡◌, ◌∙◌, sym, refl, ap, ℕ, suc, List, [], ◌∷◌, ◌++◌, map, subst, Bool, true, false, arith, get_or, ◌+◌}
+use Rattle.std.proofs.Common.{◌≡◌, ◌∙◌, sym, refl, ap, ℕ, suc, List, [], ◌∷◌, map, subst, Bool, true, false, arith, get_or, ◌+◌}
 use Rattle.std.specs.Prelude.{◌||◌, if◌then◌else◌}
 use Rattle.std.specs.List.{filter, list_any}
 use Rattle.std.specs.List.Sorted.{IsSortedBy}
@@ -12,7 +12,8 @@ use Rattle.std.proofs.lemmas.Cmp.{nat_list_cmp_total, tied_itself}
 use Rattle.rs_key.specs.Keys.{same_bytes}
 use Rattle.rs_key.proofs.RangeLaws.{same_bytes_is}
 use Rattle.rs_entry.specs.declared.outcome.KeyHistory.{KeyHistory}
-use Rattle.rs_fold.specs.Writes.{Write, item_of, of_key, key_below}
+use Rattle.rs_order.specs.Stores.{Wrote}
+use Rattle.rs_fold.specs.Writes.{item_of, of_key, key_below}
 use Rattle.rs_fold.specs.Histories.{put_at, insert_key, keys_of, history_of, histories_of}
 use Rattle.rs_fold.specs.Runs.{add_first, groups}
 
@@ -108,16 +109,16 @@ has_insert j k (x ∷ xs) = go (order k x) refl (has_insert j k xs) where
   go Equal e more = rw (equal_keys k x e) (or_twice (same_bytes j x) (has j xs))
   go Greater e more = rw more (or_parts (same_bytes j x) (same_bytes j k) (has j xs))
 
-rise_keys : (ws : List Write) → Rise (keys_of ws)
+rise_keys : (ws : List Wrote) → Rise (keys_of ws)
 rise_keys [] = tt
 rise_keys (w ∷ ws) = rise_insert w.key (keys_of ws) (rise_keys ws)
 
-has_keys : (k : List ℕ) (ws : List Write) → has k (keys_of ws) ≡ some_in (filter (of_key k) ws)
+has_keys : (k : List ℕ) (ws : List Wrote) → has k (keys_of ws) ≡ some_in (filter (of_key k) ws)
 has_keys k ws = go ws ∙ any_filter (of_key k) ws where
-  step : (w : Write) (vs : List Write) → has k (keys_of vs) ≡ list_any (of_key k) vs → has k (insert_key w.key (keys_of vs)) ≡ (same_bytes k w.key || list_any (of_key k) vs)
+  step : (w : Wrote) (vs : List Wrote) → has k (keys_of vs) ≡ list_any (of_key k) vs → has k (insert_key w.key (keys_of vs)) ≡ (same_bytes k w.key || list_any (of_key k) vs)
   step w vs h = has_insert k w.key (keys_of vs) ∙ ap (λ (b : Bool). same_bytes k w.key || b) h
 
-  go : (vs : List Write) → has k (keys_of vs) ≡ list_any (of_key k) vs
+  go : (vs : List Wrote) → has k (keys_of vs) ≡ list_any (of_key k) vs
   go [] = refl
   go (v ∷ vs) = step v vs (go vs)
 
@@ -154,52 +155,52 @@ unique (x ∷ xs) (y ∷ ys) r s h = by_order (order x y) refl (unique xs ys r.1
 
 -- ---- a sort that keeps the writes of each key changes no history
 
-abbrev history_at : List Write → List ℕ → KeyHistory
+abbrev history_at : List Wrote → List ℕ → KeyHistory
 history_at ws k = record { key = k; items = history_of ws k }
 
 maps : (f g : List ℕ → KeyHistory) → ((k : List ℕ) → f k ≡ g k) → (ks : List (List ℕ)) → map f ks ≡ map g ks
 maps f g h [] = refl
 maps f g h (k ∷ ks) = let e = h k in let es = maps f g h ks in rw (e, es) refl
 
-pub same_histories : (xs ys : List Write) → ((k : List ℕ) → filter (of_key k) ys ≡ filter (of_key k) xs) → histories_of ys ≡ histories_of xs
+pub same_histories : (xs ys : List Wrote) → ((k : List ℕ) → filter (of_key k) ys ≡ filter (of_key k) xs) → histories_of ys ≡ histories_of xs
 unfolding histories_of
 same_histories xs ys h =
     let keys : keys_of ys ≡ keys_of xs = unique (keys_of ys) (keys_of xs) (rise_keys ys) (rise_keys xs) (λ k. has_keys k ys ∙ ap some_in (h k) ∙ sym (has_keys k xs)) in
-    let each : (k : List ℕ) → history_at ys k ≡ history_at xs k = λ k. ap (λ (ws : List Write). let r : KeyHistory = record { key = k; items = map item_of ws } in r) (h k) in
+    let each : (k : List ℕ) → history_at ys k ≡ history_at xs k = λ k. ap (λ (ws : List Wrote). let r : KeyHistory = record { key = k; items = map item_of ws } in r) (h k) in
     ap (λ (ks : List (List ℕ)). map (history_at ys) ks) keys ∙ maps (history_at ys) (history_at xs) each (keys_of xs)
 
 -- ---- the runs of sorted writes
 
-abbrev NotAbove : Write → List Write → Type 0
+abbrev NotAbove : Wrote → List Wrote → Type 0
 NotAbove w [] = Unit {0}
 NotAbove w (v ∷ vs) = key_below v w ≡ false
 
-abbrev Sorted : List Write → Type 0
+abbrev Sorted : List Wrote → Type 0
 Sorted [] = Unit {0}
 Sorted (w ∷ ws) = NotAbove w ws × Sorted ws
 
-tail_sorted : (w : Write) (ws : List Write) → IsSortedBy key_below (w ∷ ws) → IsSortedBy key_below ws
+tail_sorted : (w : Wrote) (ws : List Wrote) → IsSortedBy key_below (w ∷ ws) → IsSortedBy key_below ws
 tail_sorted w ws h = λ k d low high.
     let P : ℕ → Type 0 = λ n. key_below (get_or (w ∷ ws) n d) (get_or (w ∷ ws) (suc k) d) ≡ false in
     let one : suc k + 1 ≡ suc (k + 1) = omega arith in
     subst P one (h (suc k) d (omega arith) (omega (arith, high)))
 
-sorted_from : (ws : List Write) → IsSortedBy key_below ws → Sorted ws
+sorted_from : (ws : List Wrote) → IsSortedBy key_below ws → Sorted ws
 sorted_from [] h = tt
 sorted_from (w ∷ []) h = (tt, tt)
 sorted_from (w ∷ v ∷ vs) h = (h 0 w (omega arith) (omega arith), sorted_from (v ∷ vs) (tail_sorted w (v ∷ vs) h))
 
 -- a write that isn't above another, by the order of their keys
-not_above : (w v : Write) → key_below v w ≡ false → order w.key v.key ≡ Greater → ⊥
+not_above : (w v : Wrote) → key_below v w ≡ false → order w.key v.key ≡ Greater → ⊥
 not_above w v h e =
     let less : order v.key w.key ≡ Less = turned v.key w.key ∙ ap ordering_reverse e in
     let both : true ≡ false = sym (ap is_lt less) ∙ h in cc
 
-pub record FirstKey (w : Write) (ws : List Write) : Type 0 where
+pub record FirstKey (w : Wrote) (ws : List Wrote) : Type 0 where
   pub rest : List (List ℕ)
   pub keys : keys_of (w ∷ ws) ≡ w.key ∷ rest
 
-first_key : (w : Write) (ws : List Write) → Sorted (w ∷ ws) → FirstKey w ws
+first_key : (w : Wrote) (ws : List Wrote) → Sorted (w ∷ ws) → FirstKey w ws
 first_key w [] s = record { rest = []; keys = refl }
 first_key w (v ∷ vs) s = go (first_key v vs s.1) where
   by_order : (rest : List (List ℕ)) (o : Ordering) → order w.key v.key ≡ o → keys_of (v ∷ vs) ≡ v.key ∷ rest
@@ -212,17 +213,17 @@ first_key w (v ∷ vs) s = go (first_key v vs s.1) where
   go f = let found = by_order f.rest (order w.key v.key) refl f.keys in record { rest = found.0; keys = ap (insert_key w.key) f.keys ∙ found.1 }
 
 -- a write of a lesser key is in no history of the keys above it
-others : (w : Write) (ws : List Write) (ks : List (List ℕ)) → IsBefore w.key ks → Rise ks → map (history_at (w ∷ ws)) ks ≡ map (history_at ws) ks
+others : (w : Wrote) (ws : List Wrote) (ks : List (List ℕ)) → IsBefore w.key ks → Rise ks → map (history_at (w ∷ ws)) ks ≡ map (history_at ws) ks
 others w ws [] b r = refl
 others w ws (k ∷ ks) b r =
     let other : same_bytes k w.key ≡ false = same_as k w.key Greater (turned k w.key ∙ ap ordering_reverse b) in
     let more = others w ws ks (below_all w.key k ks b r.0) r.1 in
     rw (other, more) refl
 
-no_history : (k : List ℕ) (ws : List Write) → has k (keys_of ws) ≡ false → filter (of_key k) ws ≡ []
+no_history : (k : List ℕ) (ws : List Wrote) → has k (keys_of ws) ≡ false → filter (of_key k) ws ≡ []
 no_history k ws h = none_left (filter (of_key k) ws) (sym (has_keys k ws) ∙ h)
 
-add_below : (w v : Write) (vs : List Write) (rest : List (List ℕ)) → order w.key v.key ≡ Less → keys_of (v ∷ vs) ≡ v.key ∷ rest
+add_below : (w v : Wrote) (vs : List Wrote) (rest : List (List ℕ)) → order w.key v.key ≡ Less → keys_of (v ∷ vs) ≡ v.key ∷ rest
     → add_first w (map (history_at (v ∷ vs)) (v.key ∷ rest)) ≡ map (history_at (w ∷ v ∷ vs)) (w.key ∷ v.key ∷ rest)
 add_below w v vs rest e keys =
     let rise : Rise (v.key ∷ rest) = subst Rise keys (rise_keys (v ∷ vs)) in
@@ -232,7 +233,7 @@ add_below w v vs rest e keys =
     let none_behind : filter (of_key w.key) vs ≡ [] = rw apart at none in
     rw (apart, same_itself w.key, kept, none_behind) refl
 
-add_same : (w v : Write) (vs : List Write) (rest : List (List ℕ)) → order w.key v.key ≡ Equal → keys_of (v ∷ vs) ≡ v.key ∷ rest
+add_same : (w v : Wrote) (vs : List Wrote) (rest : List (List ℕ)) → order w.key v.key ≡ Equal → keys_of (v ∷ vs) ≡ v.key ∷ rest
     → add_first w (map (history_at (v ∷ vs)) (v.key ∷ rest)) ≡ map (history_at (w ∷ v ∷ vs)) (v.key ∷ rest)
 add_same w v vs rest e keys =
     let rise : Rise (v.key ∷ rest) = subst Rise keys (rise_keys (v ∷ vs)) in
@@ -243,7 +244,7 @@ add_same w v vs rest e keys =
     let here : same_bytes v.key w.key ≡ true = ap (λ (k : List ℕ). same_bytes v.key k) (sym same) ∙ same_itself v.key in
     rw (there, here, kept) refl
 
-add_one : (w v : Write) (vs : List Write) → Sorted (w ∷ v ∷ vs) → FirstKey v vs
+add_one : (w v : Wrote) (vs : List Wrote) → Sorted (w ∷ v ∷ vs) → FirstKey v vs
     → add_first w (map (history_at (v ∷ vs)) (keys_of (v ∷ vs))) ≡ map (history_at (w ∷ v ∷ vs)) (keys_of (w ∷ v ∷ vs))
 add_one w v vs s f =
     let P : List (List ℕ) → Type 0 = λ ks. add_first w (map (history_at (v ∷ vs)) ks) ≡ map (history_at (w ∷ v ∷ vs)) (insert_key w.key ks) in
@@ -254,12 +255,12 @@ add_one w v vs s f =
       go Equal e = add_same w v vs f.rest e f.keys
       go Greater e = absurd (not_above w v s.0 e)
 
-runs : (ws : List Write) → Sorted ws → groups ws ≡ map (history_at ws) (keys_of ws)
+runs : (ws : List Wrote) → Sorted ws → groups ws ≡ map (history_at ws) (keys_of ws)
 runs [] s = refl
 runs (w ∷ []) s = rw (same_itself w.key) refl
 runs (w ∷ v ∷ vs) s = ap (add_first w) (runs (v ∷ vs) s.1) ∙ add_one w v vs s (first_key v vs s.1)
 
 -- the runs of writes that a stable sort by key gave are the histories of the unsorted ones
-pub sorted_histories : (xs ys : List Write) → IsSortedBy key_below ys → ((k : List ℕ) → filter (of_key k) ys ≡ filter (of_key k) xs) → groups ys ≡ histories_of xs
+pub sorted_histories : (xs ys : List Wrote) → IsSortedBy key_below ys → ((k : List ℕ) → filter (of_key k) ys ≡ filter (of_key k) xs) → groups ys ≡ histories_of xs
 unfolding histories_of
 sorted_histories xs ys sorted same = runs ys (sorted_from ys sorted) ∙ same_histories xs ys same

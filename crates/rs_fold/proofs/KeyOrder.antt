@@ -11,7 +11,8 @@ use Rattle.std.specs.declared.cmp.Ordering.TheVariants.{Less, Equal, Greater}
 use Rattle.std.proofs.lemmas.Cmp.{nat_list_cmp_total}
 use Rattle.std.proofs.lemmas.List.Elements.{filter_agree}
 use Rattle.std.proofs.lemmas.List.Sorted.{ranks_by}
-use Rattle.rs_fold.specs.Writes.{Write, of_key, key_below}
+use Rattle.rs_order.specs.Stores.{Wrote}
+use Rattle.rs_fold.specs.Writes.{of_key, key_below}
 
 -- neither way less, from the answer one way
 tied_by : (s : Ordering) → (not (is_lt (ordering_reverse s)) && not (is_lt s)) ≡ is_eq (ordering_reverse s)
@@ -23,10 +24,10 @@ tied : (r s : Ordering) → r ≡ ordering_reverse s → (not (is_lt r) && not (
 tied r s h = subst (λ q. (not (is_lt q) && not (is_lt s)) ≡ is_eq q) (sym h) (tied_by s)
 
 -- some write of this key
-keyed : List ℕ → Write
+keyed : List ℕ → Wrote
 keyed k = record { region = 0; index = 0; key = k; value = None }
 
-ties_of_key : (k : List ℕ) (w : Write) → of_key k w ≡ ties key_below (keyed k) w
+ties_of_key : (k : List ℕ) (w : Wrote) → of_key k w ≡ ties key_below (keyed k) w
 unfolding keyed
 ties_of_key k w =
     texts_ties k w.key ∙ sym (tied (slice_cmp nat_cmp k w.key) (slice_cmp nat_cmp w.key k) (IsTotalOrder.antisymm nat_list_cmp_total k w.key))
@@ -34,6 +35,6 @@ ties_of_key k w =
 pub key_below_orders : IsStrictWeakOrder key_below
 key_below_orders = ranks_by nat_list_cmp_total (λ w. w.key)
 
-pub same_history : (xs ys : List Write) → IsStableBy key_below xs ys → (k : List ℕ) → filter (of_key k) ys ≡ filter (of_key k) xs
+pub same_history : (xs ys : List Wrote) → IsStableBy key_below xs ys → (k : List ℕ) → filter (of_key k) ys ≡ filter (of_key k) xs
 same_history xs ys stable k =
     filter_agree _ _ (ties_of_key k) ys ∙ stable (keyed k) ∙ sym (filter_agree _ _ (ties_of_key k) xs)

@@ -5,11 +5,11 @@ use Rattle.std.specs.Ordering.{nat_cmp}
 use Rattle.std.specs.Cmp.Lexicographic.{slice_cmp}
 use Rattle.std.specs.declared.cmp.Ordering.{Ordering}
 use Rattle.std.specs.declared.cmp.Ordering.TheVariants.{Less, Equal, Greater}
-use Rattle.rs_key.specs.Keys.{same_bytes}
 use Rattle.rs_entry.specs.declared.outcome.Item.{Item}
 use Rattle.rs_entry.specs.declared.outcome.KeyHistory.{KeyHistory}
 use Rattle.rs_entry.specs.declared.outcome.Pair.{Pair}
-use Rattle.rs_fold.specs.Writes.{Write, item_of, of_key}
+use Rattle.rs_order.specs.Stores.{Wrote}
+use Rattle.rs_fold.specs.Writes.{item_of, of_key}
 
 -- a key put before, at or behind a rising key
 abbrev pub put_at : Ordering → List ℕ → List ℕ → List (List ℕ) → List (List ℕ) → List (List ℕ)
@@ -23,16 +23,16 @@ insert_key k [] = k ∷ []
 insert_key k (x ∷ xs) = put_at (slice_cmp nat_cmp k x) k x xs (insert_key k xs)
 
 -- the keys that are written, rising, each once
-abbrev pub keys_of : List Write → List (List ℕ)
+abbrev pub keys_of : List Wrote → List (List ℕ)
 keys_of [] = []
 keys_of (w ∷ ws) = insert_key w.key (keys_of ws)
 
 -- the writes of a key in their order
-abbrev pub history_of : List Write → List ℕ → List Item
+abbrev pub history_of : List Wrote → List ℕ → List Item
 history_of writes key = map item_of (filter (of_key key) writes)
 
 -- the history of each key that is written, by key
-unfoldable pub histories_of : List Write → List KeyHistory
+unfoldable pub histories_of : List Wrote → List KeyHistory
 histories_of writes = map (λ k. record { key = k; items = history_of writes k }) (keys_of writes)
 
 -- the value of the last write, none where it is a deletion or there is none

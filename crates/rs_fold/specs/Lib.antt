@@ -1,4 +1,7 @@
+pub mod Ends
 pub mod Histories
 pub mod KeyCodes
+pub mod Outcomes
+pub mod Replies
 pub mod Runs
 pub mod Writes

@@ -3,7 +3,8 @@ ghost use Rattle.std.specs.Cmp.Lexicographic.{slice_cmp};
 ghost use Rattle.std.specs.Ordering.{nat_cmp};
 ghost use Rattle.rs_key.specs.Keys.{same_bytes};
 ghost use Rattle.rs_entry.specs.Entries.{key_of};
-ghost use Rattle.rs_fold.specs.Writes.{wrote, item_of};
+ghost use Rattle.rs_order.specs.Stores.{wrote};
+ghost use Rattle.rs_fold.specs.Writes.{item_of};
 
 use crate::key_code::{code_of, compare};
 use rs_entry::{Item, Op};
@@ -25,9 +26,9 @@ impl<'a> Model for AcceptedWrite<'a> {
     ghost use Rattle.std.specs.List.{AllByRecursion};
     ghost use Rattle.rs_entry.specs.Entries.{key_of};
     ghost use Rattle.rs_fold.specs.KeyCodes.{code};
-    ghost use Rattle.rs_fold.specs.Writes.{Write, wrote};
+    ghost use Rattle.rs_order.specs.Stores.{Wrote, wrote};
 
-    ghost Value = { Write };
+    ghost Value = { Wrote };
 
     ghost view = { λ a. wrote a.region a.index a.op.now };
 
@@ -65,6 +66,18 @@ impl<'a> AcceptedWrite<'a> {
             index: self.index,
             value,
         })
+    }
+
+    /// The same write, of the same operation.
+    pub fn again(&self) -> AcceptedWrite<'a>
+        ensures { result ≡ self.now }
+    {
+        AcceptedWrite {
+            rank: self.rank,
+            region: self.region,
+            index: self.index,
+            op: self.op,
+        }
     }
 
     /// Whether the two writes are of one key.

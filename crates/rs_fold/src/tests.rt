@@ -1,5 +1,5 @@
 use super::*;
-use rs_entry::{Item, KeyHistory, Op};
+use rs_entry::{Item, KeyHistory, Op, Outcome, StoreOutcome};
 use rs_key::{Key, Rows, Value};
 use std::alloc::Global;
 use std::test::Fail;
@@ -53,5 +53,39 @@ fn histories_are_by_key_and_in_order(rt: HostRuntime) -> Result<(), Fail> {
     assert_eq!(rt; text(alloc, &histories)?.as_str(), wanted);
     let pairs = pairs_of(alloc, &histories)?;
     assert_eq!(rt; pairs.len(), 2);
+    Ok(())
+}
+
+fn store(alloc: Global, id: u64, histories: Rows<KeyHistory>) -> StoreOutcome {
+    StoreOutcome {
+        id,
+        regions: Rows::new(alloc),
+        replies: Rows::new(alloc),
+        pairs: Rows::new(alloc),
+        histories,
+    }
+}
+
+#[test]
+fn a_history_is_found_by_store_and_key(rt: HostRuntime) -> Result<(), Fail> {
+    let alloc = rt.alloc();
+    let ops = [put(alloc, "a", "1")?, put(alloc, "b", "2")?];
+    let mut writes = Writes::new(alloc);
+    writes.record(1, 6, ops.as_slice())?;
+    writes.record(1, 7, ops.as_slice())?;
+    let mut stores = Rows::new(alloc);
+    stores.push(store(alloc, 1, Rows::new(alloc)))?;
+    stores.push(store(alloc, 2, writes.into_histories(alloc)?))?;
+    let outcome = Outcome { stores };
+    let b = Key::new(alloc, b"b")?;
+    let c = Key::new(alloc, b"c")?;
+    assert!(rt; history(&outcome, 1, &b).is_none());
+    assert!(rt; history(&outcome, 2, &c).is_none());
+    assert!(rt; history(&outcome, 3, &b).is_none());
+    let found = match history(&outcome, 2, &b) {
+        None => 0,
+        Some(items) => items.len(),
+    };
+    assert_eq!(rt; found, 2);
     Ok(())
 }

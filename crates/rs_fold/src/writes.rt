@@ -1,13 +1,15 @@
 ghost use Rattle.std.specs.Prelude.{◌≡◌, ◌++◌, [], ℕ, List, map, OnOk, IfOk};
 ghost use Rattle.std.specs.List.{filter};
 ghost use Rattle.std.specs.List.Sorted.{IsPermutation, IsSortedBy};
-ghost use Rattle.rs_fold.specs.Writes.{wrote, of_key, key_below};
+ghost use Rattle.rs_order.specs.Stores.{wrote};
+ghost use Rattle.rs_fold.specs.Writes.{of_key, key_below};
 ghost use Rattle.rs_fold.specs.Histories.{histories_of};
+ghost use Rattle.rs_fold.specs.Outcomes.{is_shown, shown};
 
 use crate::accepted_write::AcceptedWrite;
 use crate::grouping::grouped;
 use rs_entry::{KeyHistory, Op};
-use rs_key::{NoMemory, Rows};
+use rs_key::{Key, NoMemory, Range, Rows};
 use std::alloc::{AllocError, Global};
 use std::marker::Model;
 
@@ -19,9 +21,9 @@ pub struct Writes<'a> {
 
 impl<'a> Model for Writes<'a> {
     ghost use Rattle.std.specs.Prelude.{List};
-    ghost use Rattle.rs_fold.specs.Writes.{Write};
+    ghost use Rattle.rs_order.specs.Stores.{Wrote};
 
-    ghost Value = { List Write };
+    ghost Value = { List Wrote };
 
     ghost view = { λ w. w.items.items };
 }
@@ -45,6 +47,18 @@ impl<'a> Writes<'a> {
         Ok(())
     }
 
+    /// The writes whose keys lie in none of these ranges, in their order.
+    #[tactic(auto, using(crate::proofs::ShownLaws::all_shown))]
+    pub fn outside(self, alloc: Global, ranges: &[Range]) -> Result<Writes<'a>, NoMemory>
+        ensures { IfOk result (λ writes. writes ≡ shown ranges.now self.entry) }
+    {
+        if ranges.is_empty() {
+            return Ok(self);
+        }
+        let items = kept(alloc, ranges, self.items.as_slice())?;
+        Ok(Writes { items })
+    }
+
     /// The history of each key that is written, by key.
     ///
     /// The writes are sorted by their keys, and those of one key keep their order.
@@ -55,6 +69,35 @@ impl<'a> Writes<'a> {
         sort_by_key(&mut items)?;
         Ok(grouped(alloc, items.as_slice())?)
     }
+}
+
+fn kept<'a>(
+    alloc: Global,
+    ranges: &[Range],
+    writes: &[AcceptedWrite<'a>],
+) -> Result<Vec<AcceptedWrite<'a>>, NoMemory>
+    ensures { IfOk result (λ items. items.items ≡ shown ranges.now writes.now) }
+{
+    let mut items = Vec::new(alloc);
+    for write in writes {
+        if !is_shown(ranges, write.key()) {
+            continue;
+        }
+        items.push(write.again())?;
+    }
+    Ok(items)
+}
+
+/// Whether the key lies in none of the ranges.
+fn is_shown(ranges: &[Range], key: &Key) -> bool
+    ensures { result ≡ is_shown ranges.now key.now }
+{
+    for range in ranges {
+        if range.holds(key) {
+            return false;
+        }
+    }
+    true
 }
 
 /// Sorts by key; writes of one key keep their order.

@@ -1,6 +1,6 @@
 -- What a calm step leaves to the other regions.
 use Rattle.std.proofs.Common.{◌≡◌, ℕ, ◌+◌, ◌≤◌, ◌<◌, suc, zero, refl, sym, ap, ◌∙◌, subst, List, [], ◌∷◌, length, get_or, drop, arith}
-use Rattle.std.specs.Prelude.{Bool, true, false, Option, Some, None, ◌==◌, ◌&&◌, not, is_some, leb, if◌then◌else◌}
+use Rattle.std.specs.Prelude.{Bool, true, false, Option, Some, None, ◌==◌, ◌&&◌, ◌||◌, not, is_some, leb, if◌then◌else◌}
 use Rattle.std.specs.List.{find}
 use Rattle.std.proofs.lemmas.Bool.{eqb-true, eq-eqb, leb-true, le-leb}
 use Rattle.std.specs.Cmp.{both_ways}
@@ -21,7 +21,7 @@ use Rattle.rs_order.specs.declared.regions.Made.{Made}
 use Rattle.rs_order.specs.Stores.{ByRegion, Applied, Merge, own, ids_of, own_next, entry_at, carried_at, carried_next, first_some, stands, stands_in, next, goes_on, merge_of, merge_in, is_accept, has_applied, source_is_there, ready_with, ready_in, is_ready, with_region, accept, step_by, step_with, step_in, step, passed, reshaped, conf_changed}
 use Rattle.rs_order.specs.Runs.{Run, Moved, bare, forget, is_quiet}
 use Rattle.rs_order.specs.Places.{Places}
-use Rattle.rs_order.specs.Cursor.{HasMerges, IsCalm, cursor_after}
+use Rattle.rs_order.specs.Cursor.{HasMerges, IsCalm, is_quiet_for}
 
 -- a quiet step changes its own region alone, which has applied one entry more
 
@@ -40,8 +40,12 @@ quiet_accept store f id r (body.Commit source commit l) q = absurd cc
 quiet_accept store f id r (body.Rollback commit) q = only f id r (reshaped r (rolled_back r.state)) refl
 quiet_accept store f id r (body.Conf c) q = only f id r (reshaped r (conf_changed store.id r.state c)) refl
 
-quiet_by : (v : Verdict) (store : Store) (f : ByRegion) (id : ℕ) (r : Made) (e : Entry) → is_quiet e.body ≡ true → IsOnlyAt f id r (forget (step_by v store (bare f) id r e))
-quiet_by verdicts.Accept store f id r e q = quiet_accept store f id r e.body q
+or_false : (b : Bool) → (b || false) ≡ true → b ≡ true
+or_false true h = refl
+or_false false h = absurd cc
+
+quiet_by : (v : Verdict) (store : Store) (f : ByRegion) (id : ℕ) (r : Made) (e : Entry) → (is_quiet e.body || not (is_accept v)) ≡ true → IsOnlyAt f id r (forget (step_by v store (bare f) id r e))
+quiet_by verdicts.Accept store f id r e q = quiet_accept store f id r e.body (or_false (is_quiet e.body) q)
 quiet_by verdicts.Empty store f id r e q = only f id r (passed r) refl
 quiet_by verdicts.Stale store f id r e q = only f id r (passed r) refl
 quiet_by verdicts.Merging store f id r e q = only f id r (passed r) refl
@@ -147,7 +151,7 @@ module _ (store : Store) (awaited : Places) (all : HasMerges store awaited) (f :
       on false g = refl
 
 -- what a quiet step of a ready region leaves
-pub quiet_step : (store : Store) (f : ByRegion) (id : ℕ) (r : Made) (e : Entry) → f id ≡ Some r → next store (bare f) id r ≡ Some e → is_quiet e.body ≡ true
+pub quiet_step : (store : Store) (f : ByRegion) (id : ℕ) (r : Made) (e : Entry) → f id ≡ Some r → next store (bare f) id r ≡ Some e → is_quiet_for r.state e ≡ true
     → IsOnlyAt f id r (forget (step store (bare f) id))
 quiet_step store f id r e at n q =
     let same : forget (step store (bare f) id) ≡ forget (step_by (verdict r.state e) store (bare f) id r e) =
@@ -171,15 +175,25 @@ apart f id x t e = rw e refl
 at_it : (f : ByRegion) (id : ℕ) (t : Made) → with_region f id t id ≡ Some t
 at_it f id t = rw (eq-eqb id id refl) refl
 
--- after a calm step of a ready region, others are as ready as before
-pub calm_frame : (store : Store) (awaited : Places) → HasMerges store awaited → (f h : ByRegion) (id : ℕ) → IsCalm store awaited f id → is_ready store (bare f) id ≡ true
-    → forget (step store (bare f) id) ≡ Moved h → stands store (bare h) id ≡ None → (x : ℕ) → (x == id) ≡ false → is_ready store (bare h) x ≡ is_ready store (bare f) x
-calm_frame store awaited all f h id calm ready went lone x ne =
-    let m = ready_made store f id ready in
-    let o = quiet_step store f id m.0 m.1.0 m.1.1.0 m.1.1.1 (calm.quiet m.0 m.1.0 m.1.1.0 m.1.1.1) h went in
-    let t : Made = o.0 in
-    let now : h id ≡ Some t = ap (λ z. z id) o.1.1 ∙ at_it f id t in
-    ready_frame store awaited all f id calm m.0 t m.1.1.0 o.1.0 h now (λ y q. ap (λ z. z y) o.1.1 ∙ apart f id y t q) lone x ne
+module _ (store : Store) (awaited : Places) (all : HasMerges store awaited) (f h : ByRegion) (id : ℕ) (calm : IsCalm store awaited f id) (ready : is_ready store (bare f) id ≡ true)
+    (went : forget (step store (bare f) id) ≡ Moved h) (lone : stands store (bare h) id ≡ None) where
+  there : (r : Made) × ((e : Entry) × ((f id ≡ Some r) × (next store (bare f) id r ≡ Some e)))
+  there = ready_made store f id ready
+
+  left : (t : Made) × ((t.applied ≡ there.0.applied + 1) × (h ≡ with_region f id t))
+  left = quiet_step store f id there.0 there.1.0 there.1.1.0 there.1.1.1 (calm.quiet there.0 there.1.0 there.1.1.0 there.1.1.1) h went
+
+  -- after a calm step of a ready region, others are as ready as before
+  pub calm_frame : (x : ℕ) → (x == id) ≡ false → is_ready store (bare h) x ≡ is_ready store (bare f) x
+  calm_frame x ne =
+      ready_frame store awaited all f id calm there.0 left.0 there.1.1.0 left.1.0 h (ap (λ z. z id) left.1.1 ∙ at_it f id left.0)
+      (λ y q. ap (λ z. z y) left.1.1 ∙ apart f id y left.0 q) lone x ne
+
+  -- and the same regions stand before the same merges
+  pub calm_stands : (x : ℕ) → stands store (bare h) x ≡ stands store (bare f) x
+  calm_stands x =
+      stands_frame store awaited all f id calm there.0 left.0 there.1.1.0 left.1.0 h (ap (λ z. z id) left.1.1 ∙ at_it f id left.0)
+      (λ y q. ap (λ z. z y) left.1.1 ∙ apart f id y left.0 q) lone x
 
 -- where none before the cursor is ready, the least that is ready stands from there on
 
@@ -197,19 +211,15 @@ none_found p (x ∷ xs) none =
     let here : p x ≡ false = none 0 (omega arith) in
     rw here (none_found p xs (λ k a. none (suc k) (omega arith)))
 
--- none before the new cursor is ready
-pub before_cursor : (p q : ℕ → Bool) (ids : List ℕ) (at : ℕ) (calm lone : Bool) → at < length ids → p (get_or ids at 0) ≡ true
-    → ((k : ℕ) → k < at → p (get_or ids k 0) ≡ false)
-    → (calm ≡ true → lone ≡ true → (x : ℕ) → (x == get_or ids at 0) ≡ false → q x ≡ p x)
-    → (k : ℕ) → k < cursor_after calm lone at → k < length ids → q (get_or ids k 0) ≡ false
-before_cursor p q ids at true true lt ready before same k h l =
-    let no : p (get_or ids k 0) ≡ false = before k h in
-    same refl refl (get_or ids k 0) (differs (get_or ids k 0) (get_or ids at 0) (get_or ids k 0 == get_or ids at 0) refl no ready) ∙ no where
+-- none before the cursor is ready, where one that is ready took a step and others are as ready as before
+pub still_before : (p q : ℕ → Bool) (ids : List ℕ) (cursor id : ℕ) → p id ≡ true → ((k : ℕ) → k < cursor → k < length ids → p (get_or ids k 0) ≡ false)
+    → ((x : ℕ) → (x == id) ≡ false → q x ≡ p x) → (k : ℕ) → k < cursor → k < length ids → q (get_or ids k 0) ≡ false
+still_before p q ids cursor id ready before same k h l =
+    let off : p (get_or ids k 0) ≡ false = before k h l in
+    same (get_or ids k 0) (differs (get_or ids k 0) id (get_or ids k 0 == id) refl off ready) ∙ off where
       differs : (x y : ℕ) (b : Bool) → (x == y) ≡ b → p x ≡ false → p y ≡ true → (x == y) ≡ false
       differs x y true e f g = let z : p x ≡ p y = ap p (eqb-true x y e) in absurd cc
       differs x y false e f g = e
-before_cursor p q ids at true false lt ready before same k h l = absurd (omega arith)
-before_cursor p q ids at false lone lt ready before same k h l = absurd (omega arith)
 
 pub none_there : {X : Type 0} (o : Option X) (b : Bool) → is_some o ≡ not b → b ≡ true → o ≡ None
 none_there None b h k = refl

@@ -1,8 +1,11 @@
 pub mod AwaitLaws
+pub mod CarrierSteps
+pub mod Effects
 pub mod EndLaws
 pub mod Folds
 pub mod FormLaws
 pub mod Frames
+pub mod LogPlaces
 pub mod Loops
 pub mod Near
 pub mod Orders
@@ -10,3 +13,4 @@ pub mod PlaceSteps
 pub mod Rising
 pub mod Updates
 pub mod Verdicts
+pub mod WalkLaws

@@ -56,7 +56,7 @@ boots_near origin (x ∷ xs) = (record { named = refl; version = omega arith; co
 pub opening_near : (store : Store) → IsWithin 5 (opening store).region
 opening_near store = within_puts 5 no_regions _ _ (λ id r e. absurd cc) (boots_near _ store.regions)
 
-abbrev Leads : ℕ → Run → Type 0
+abbrev pub Leads : ℕ → Run → Type 0
 Leads b m = (f : ByRegion) → m ≡ Moved f → IsWithin b f
 
 leads : (b : ℕ) (f : ByRegion) → IsWithin b f → Leads b (Moved f)
@@ -153,7 +153,7 @@ module _ (b : ℕ) (five : 5 ≤ b) (store : Store) (formed : IsFormedStore stor
   stay : Leads (b + 64) (Moved f)
   stay = leads (b + 64) f (within_more b (b + 64) f (omega arith) within)
 
-  step_leads : (id : ℕ) → Leads (b + 64) (forget (step store (bare f) id))
+  pub step_leads : (id : ℕ) → Leads (b + 64) (forget (step store (bare f) id))
   step_leads id = go (f id) refl where
     with_entry : (r : Made) → f id ≡ Some r → (o : Option Entry) → next store (bare f) id r ≡ o → Leads (b + 64) (forget (step_with store (bare f) id r o))
     with_entry r q None n = stay

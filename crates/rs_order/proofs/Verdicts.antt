@@ -25,7 +25,7 @@ use Rattle.rs_order.specs.declared.regions.Made.{Made}
 use Rattle.rs_key.specs.declared.no_memory.NoMemory.{NoMemory}
 use Rattle.rs_order.specs.declared.fault.StepFault.{StepFault}
 use Rattle.rs_order.specs.declared.fault.StepFault.TheVariants as faults
-use Rattle.rs_order.specs.Stores.{ByRegion, with_region, without, is_paused, own, as_merged, is_prepared_for, is_accept, step_by, commit_with, commit_in, step, step_in, step_with, next, passed, reshaped}
+use Rattle.rs_order.specs.Stores.{ByRegion, with_region, without, is_paused, own, as_merged, is_prepared_for, is_accept, step_by, commit_with, commit_in, step, step_in, step_with, next, passed, reshaped, merge_in, merge_of}
 use Rattle.rs_order.proofs.Updates.{beside, put_two, put_back}
 use Rattle.rs_order.specs.Runs.{Run, told, bare, forget, Moved, Failed, IsFormed, is_bad}
 
@@ -135,3 +135,10 @@ step_found store f id found made e h k n =
     ap (λ o. forget (step_in store (bare f) id o)) k
     ∙ (ap (λ o. forget (step_with store (bare f) id made o)) (subst (λ (x : Made). next store (bare f) id x ≡ Some e) same n)
     ∙ ap (λ g. forget (step_by (verdict made.state e) store (bare g) id made e)) (sym (put_back f id made k)))
+
+-- an entry that is no commit has no merge
+pub no_merge_of : (s : RegionState) (e : Entry) → None ≡ merge_in e.body → None ≡ merge_of s (Some e)
+no_merge_of s e h = go (is_accept (verdict s e)) refl where
+  go : (b : Bool) → is_accept (verdict s e) ≡ b → None ≡ merge_of s (Some e)
+  go true q = rw q h
+  go false q = rw q refl

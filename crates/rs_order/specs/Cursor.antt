@@ -1,9 +1,11 @@
 -- When a step changes nothing for other regions.
-use Rattle.std.specs.Prelude.{◌≡◌, ℕ, ◌+◌, ◌&&◌, Bool, true, Some, None, if◌then◌else◌}
+use Rattle.std.specs.Prelude.{◌≡◌, ℕ, ◌+◌, ◌||◌, not, Bool, true, Some, None}
 use Rattle.rs_entry.specs.declared.entry.Entry.{Entry}
 use Rattle.rs_entry.specs.declared.input.Store.{Store}
 use Rattle.rs_order.specs.declared.regions.Made.{Made}
-use Rattle.rs_order.specs.Stores.{ByRegion, Applied, Merge, stands, next}
+use Rattle.rs_region.specs.declared.state.RegionState.{RegionState}
+use Rattle.rs_region.specs.Verdicts.{verdict}
+use Rattle.rs_order.specs.Stores.{ByRegion, Applied, Merge, is_accept, stands, next}
 use Rattle.rs_order.specs.Runs.{bare, is_quiet}
 use Rattle.rs_order.specs.Places.{Places}
 
@@ -11,11 +13,12 @@ use Rattle.rs_order.specs.Places.{Places}
 abbrev pub HasMerges : Store → Places → Type 0
 HasMerges store awaited = (g : Applied) (x : ℕ) (m : Merge) → stands store g x ≡ Some m → awaited m.source m.commit ≡ None → ⊥
 
+-- the entry changes its own region alone: it is refused, or is no split and no commit
+abbrev pub is_quiet_for : RegionState → Entry → Bool
+is_quiet_for s e = is_quiet e.body || not (is_accept (verdict s e))
+
 -- the region's next step changes nothing for others
 pub record IsCalm (store : Store) (awaited : Places) (f : ByRegion) (id : ℕ) : Type 0 where
   pub lone : stands store (bare f) id ≡ None
-  pub quiet : (r : Made) (e : Entry) → f id ≡ Some r → next store (bare f) id r ≡ Some e → is_quiet e.body ≡ true
+  pub quiet : (r : Made) (e : Entry) → f id ≡ Some r → next store (bare f) id r ≡ Some e → is_quiet_for r.state e ≡ true
   pub unawaited : (r : Made) → f id ≡ Some r → awaited id (r.applied + 1) ≡ None
-
-abbrev pub cursor_after : Bool → Bool → ℕ → ℕ
-cursor_after calm lone at = if calm && lone then at else 0

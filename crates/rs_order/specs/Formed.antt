@@ -5,6 +5,7 @@ use Rattle.rs_entry.specs.declared.entry.Entry.{Entry}
 use Rattle.rs_entry.specs.declared.input.Log.{Log}
 use Rattle.rs_entry.specs.declared.input.Store.{Store}
 use Rattle.rs_entry.specs.declared.input.Input.{Input}
+use Rattle.rs_order.specs.Indexes.{AreRising, log_ids}
 use Rattle.rs_order.specs.Runs.{IsFormed}
 use Rattle.rs_order.specs.Stores.{carried_in, entries_in}
 
@@ -21,6 +22,7 @@ IsFormedLog log = All (λ e. IsFormed e.body) log.entries
 
 pub record IsFormedOne (store : Store) : Type 0 where
   pub logs : All IsFormedLog store.logs
+  pub rising : AreRising (log_ids store)
   pub few : entries_in store < 2 ^ 50
 
 abbrev pub IsFormedStores : List Store → Type 0

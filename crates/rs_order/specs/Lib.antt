@@ -1,7 +1,10 @@
 pub mod Awaits
+pub mod Carriers
 pub mod Cursor
 pub mod Ends
 pub mod Formed
+pub mod Indexes
 pub mod Places
 pub mod Runs
 pub mod Stores
+pub mod Walks

@@ -1,5 +1,5 @@
 -- One store that applies its logs, one entry at a time.
-use Rattle.std.specs.Prelude.{ℕ, zero, suc, ◌+◌, ◌-◌, ◌==◌, ltb, leb, Bool, true, false, not, ◌&&◌, List, [], ◌∷◌, ◌++◌, map, Option, Some, None, if◌then◌else◌, slice_get, length}
+use Rattle.std.specs.Prelude.{ℕ, zero, suc, ◌+◌, ◌-◌, ◌==◌, ltb, leb, Bool, true, false, not, ◌&&◌, List, [], ◌∷◌, ◌++◌, map, Option, Some, None, if◌then◌else◌, slice_get, length, drop}
 use Rattle.std.specs.List.{list_any, find, flat_map, sum_by}
 use Rattle.rs_key.specs.Ranges.{is_next_to}
 use Rattle.rs_key.specs.Epochs.{fits}
@@ -115,9 +115,9 @@ is_rollback_of commit b = false
 abbrev pub is_fitting : ℕ → Epoch → Entry → Bool
 is_fitting commit epoch e = ltb commit e.index && (is_rollback_of commit e.body && fits (kind_of e.body) epoch e.epoch)
 
--- a region that is Merging goes on only where its own log on this store holds a fitting rollback
+-- a region that is Merging goes on only where its own log on this store holds a fitting rollback past the commit
 abbrev pub is_paused_in : List Entry → Epoch → Mode → Bool
-is_paused_in log epoch (mode.Merging target commit) = not (list_any (is_fitting commit epoch) log)
+is_paused_in log epoch (mode.Merging target commit) = not (list_any (is_fitting commit epoch) (drop (commit - 5) log))
 is_paused_in log epoch m = false
 
 abbrev pub is_paused : List Entry → RegionState → Bool

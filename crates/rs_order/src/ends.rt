@@ -1,30 +1,29 @@
 ghost use Rattle.std.specs.Prelude.{◌≡◌, ℕ, ◌+◌, ◌<◌, ◌≤◌, ◌^◌, Option, Some, None, IfOk, OnOk};
 ghost use Rattle.std.specs.Option.{option_copied};
-ghost use Rattle.rs_order.specs.Stores.{ids_of, after, last};
+ghost use Rattle.rs_order.specs.Stores.{ids_of, after, last, opening};
+ghost use Rattle.rs_order.specs.Walks.{IsWalk, store_of, made_by};
 ghost use Rattle.rs_order.specs.Formed.{IsFormedOne};
 ghost use Rattle.rs_order.specs.Runs.{seen, bare, forget, told, Moved, IsAllLow, IsFormedStore};
 ghost use Rattle.rs_order.specs.Ends.{first_of, waits, is_unborn, first_unborn, fault_of, fault_at_end};
 
-use crate::awaits::awaited;
 use crate::counts::entries_in;
-use crate::cursor::run_by_cursor;
 use crate::fault::{StepFault, StoreFault};
-use crate::ids::ids_of;
-use crate::order::Ended;
+use crate::indexed::IndexedStore;
 use crate::regions::{Made, Regions};
 use crate::run::stands;
+use crate::walk::Walk;
 use rs_entry::{Entry, Log, Store};
 use rs_key::NoMemory;
 use std::alloc::Global;
 
-fn waits(store: &Store, regions: &Regions, id: u64) -> Option<StoreFault>
+fn waits(indexed: &IndexedStore<'_>, regions: &Regions, id: u64) -> Option<StoreFault>
     requires { IsAllLow (seen regions.now) }
-    ensures { result ≡ waits store.now (bare (seen regions.now)) id }
+    ensures { result ≡ waits indexed.now (bare (seen regions.now)) id }
 {
     let Some(made) = regions.get(id) else {
         return None;
     };
-    let Some(merge) = stands(store, regions, id) else {
+    let Some(merge) = stands(indexed, regions, id) else {
         return None;
     };
     Some(StoreFault::Waits {
@@ -35,12 +34,12 @@ fn waits(store: &Store, regions: &Regions, id: u64) -> Option<StoreFault>
     })
 }
 
-fn first_waits(store: &Store, ids: &[u64], regions: &Regions) -> Option<StoreFault>
+fn first_waits(indexed: &IndexedStore<'_>, ids: &[u64], regions: &Regions) -> Option<StoreFault>
     requires { IsAllLow (seen regions.now) }
-    ensures { result ≡ first_of (waits store.now (bare (seen regions.now))) ids.now }
+    ensures { result ≡ first_of (waits indexed.now (bare (seen regions.now))) ids.now }
 {
     for id in ids {
-        if let Some(fault) = waits(store, regions, *id) {
+        if let Some(fault) = waits(indexed, regions, *id) {
             return Some(fault);
         }
     }
@@ -69,50 +68,74 @@ fn first_unborn(regions: &Regions, logs: &[Log]) -> Option<StoreFault>
 
 /// What a store's run comes to that ended with this fault, or none, and these regions.
 fn fault_of(
-    store: &Store,
-    ids: &[u64],
+    indexed: &IndexedStore<'_>,
     regions: &Regions,
     fault: Option<StepFault>,
 ) -> Option<StoreFault>
-    requires ids { ids.now ≡ ids_of store.now }
-    requires low { fault ≡ None → IsAllLow (seen regions.now) }
-    ensures { result ≡ fault_of store.now (told fault (seen regions.now)) }
+    requires { fault ≡ None → IsAllLow (seen regions.now) }
+    ensures { result ≡ fault_of indexed.now (told fault (seen regions.now)) }
 {
     if let Some(fault) = fault {
         return Some(StoreFault::Step(fault));
     }
-    if let Some(fault) = first_waits(store, ids, regions) {
+    if let Some(fault) = first_waits(indexed, indexed.ids(), regions) {
         return Some(fault);
     }
-    first_unborn(regions, store.logs.as_slice())
+    first_unborn(regions, indexed.store().logs.as_slice())
 }
 
 /// What a store comes to in the canonical order.
 #[derive(Drop)]
-pub struct StoreRun {
-    /// The regions that it may have, by id.
-    pub ids: Vec<u64>,
+pub struct StoreRun<'a> {
+    pub indexed: IndexedStore<'a>,
     /// The regions that it made, at the end of the order.
     pub regions: Regions,
     /// The first fault of the order, or of its end.
     pub fault: Option<StoreFault>,
 }
 
+/// The canonical order's first steps, at most so many.
+fn walk_on(alloc: Global, walk: &mut Walk<'_>, count: usize) -> Result<Option<StepFault>, NoMemory>
+    requires walk { IsWalk walk.old }
+    requires formed { IsFormedStore (store_of walk.old) }
+    requires first { walk.old.steps ≡ 0 }
+    requires opening { made_by walk.old ≡ (opening (store_of walk.old)).region }
+    requires few { count < 2 ^ 50 }
+    ensures value { IfOk result (λ fault. forget (after (store_of walk.old) count) ≡ told fault (made_by walk.new)) }
+    ensures walk { IfOk result (λ fault. fault ≡ None → IsAllLow (made_by walk.new)) }
+    ensures store { IfOk result (λ _. store_of walk.new ≡ store_of walk.old) }
+{
+    for place in 0..count {
+        let Some(id) = walk.least_ready() else {
+            return Ok(None);
+        };
+        match walk.step(alloc, id)? {
+            None => {}
+            Some(fault) => return Ok(Some(fault)),
+        }
+    }
+    Ok(None)
+}
+
 /// Runs the store's canonical order.
 #[tactic(auto, using(crate::proofs::FormLaws::formed_store, crate::proofs::EndLaws::end_same, crate::proofs::EndLaws::end_moved))]
-pub fn run_store(alloc: Global, store: &Store) -> Result<StoreRun, NoMemory>
+pub fn run_store<'a>(alloc: Global, store: &'a Store) -> Result<StoreRun<'a>, NoMemory>
     requires { IsFormedOne store.now }
-    ensures ids { IfOk result (λ run. run.ids.items ≡ ids_of store.now) }
+    ensures store { IfOk result (λ run. run.indexed ≡ store.now) }
     ensures fault { IfOk result (λ run. run.fault ≡ fault_at_end store.now (last store.now)) }
     ensures regions { IfOk result (λ run. run.fault ≡ None → forget (last store.now) ≡ Moved (seen run.regions)) }
 {
-    let ids = ids_of(alloc, store)?;
-    let awaited = awaited(alloc, store)?;
+    let mut walk = Walk::new(alloc, store)?;
     let count = entries_in(store);
-    let Ended { regions, fault } = run_by_cursor(alloc, store, ids.as_slice(), &awaited, count)?;
-    let fault = fault_of(store, ids.as_slice(), &regions, fault);
+    let fault = walk_on(alloc, &mut walk, count)?;
+    let Walk {
+        indexed,
+        regions,
+        ..
+    } = walk;
+    let fault = fault_of(&indexed, &regions, fault);
     Ok(StoreRun {
-        ids,
+        indexed,
         regions,
         fault,
     })

@@ -5,19 +5,27 @@
 #![tactic(auto)]
 
 mod awaits;
+mod carriers;
 mod counts;
 mod cursor;
+mod effect;
 mod ends;
 mod fault;
 mod ids;
+mod indexed;
 mod order;
 mod places;
 mod regions;
 mod run;
 mod step;
+mod walk;
 
+pub use effect::Effect;
 pub use ends::{StoreRun, run_store};
 pub use fault::{StepFault, StoreFault};
+pub use indexed::{IndexedStore, own};
 pub use places::PlaceMap;
 pub use regions::{Made, Origin, Regions};
-pub use run::{Line, find_carried, own, own_next};
+pub use run::{Line, find_carried, own_next};
+pub use step::verdict_of;
+pub use walk::{Advance, Arrived, Walk};

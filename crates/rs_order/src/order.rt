@@ -5,9 +5,10 @@ ghost use Rattle.rs_order.specs.Stores.{ids_of, with_regions, opening, after};
 ghost use Rattle.rs_order.specs.Runs.{seen, forget, told, IsAllLow, IsFormedStore};
 
 use crate::fault::StepFault;
+use crate::indexed::IndexedStore;
 use crate::regions::{Origin, Regions};
 use crate::step::born;
-use rs_entry::{Boot, Store};
+use rs_entry::Boot;
 use rs_key::{NoMemory, TryClone};
 use rs_region::RegionState;
 use std::alloc::Global;
@@ -29,17 +30,12 @@ fn put_boots(alloc: Global, regions: &mut Regions, boots: &[Boot]) -> Result<(),
     }
 }
 
-pub fn opening(alloc: Global, store: &Store) -> Result<Regions, NoMemory>
-    ensures { IfOk result (λ regions. seen regions ≡ (opening store.now).region) }
+/// The regions that are there from the start.
+pub fn opening(alloc: Global, indexed: &IndexedStore<'_>) -> Result<Regions, NoMemory>
+    ensures { IfOk result (λ regions. seen regions ≡ (opening indexed.now).region) }
 {
+    let store = indexed.store();
     let mut regions = Regions::new(alloc);
     put_boots(alloc, &mut regions, store.regions.as_slice())?;
     Ok(regions)
-}
-
-/// How a run of a store ended.
-#[derive(Drop)]
-pub struct Ended {
-    pub regions: Regions,
-    pub fault: Option<StepFault>,
 }

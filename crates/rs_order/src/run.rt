@@ -1,14 +1,16 @@
-ghost use Rattle.std.specs.Prelude.{◌≡◌, ℕ, ◌+◌, ◌<◌, ◌≤◌, ◌^◌, ◌==◌, Option, Some, None, IfOk, IfSome, OnOk, slice_get, map, true};
+ghost use Rattle.std.specs.Prelude.{◌≡◌, ℕ, ◌+◌, ◌<◌, ◌≤◌, ◌^◌, ◌==◌, Option, Some, None, IfOk, IfSome, OnOk, slice_get, map, true, drop, ◌-◌};
 ghost use Rattle.std.specs.List.{find, list_any};
 ghost use Rattle.std.specs.Option.{option_copied, option_map};
 ghost use Rattle.rs_entry.specs.Entries.{entry_of};
-ghost use Rattle.rs_order.specs.Stores.{own, ids_of, is_fitting, is_paused, goes_on, merge_of, own_next, stands, entry_at, carried_at, carried_next, next, has_applied, is_ready, least_ready, step, is_accept};
+ghost use Rattle.rs_order.specs.Stores.{own, ids_of, is_fitting, is_paused, goes_on, merge_of, merge_in, own_next, stands, entry_at, carried_at, carried_next, next, has_applied, is_ready, least_ready, step, is_accept};
 ghost use Rattle.rs_order.specs.Runs.{seen, bare, forget, told, next_in, IsLow, IsAllLow, IsFormed, IsFormedStore, line_entry};
+ghost use Rattle.rs_order.specs.Carriers.{carriers, standing_for};
 
-use crate::fault::StepFault;
-use crate::regions::{Made, Origin, Regions};
-use rs_entry::{Body, Carried, Entry, Mode, Store};
-use rs_key::{Epoch, Kind, NoMemory, Rows};
+use crate::carriers::Carriers;
+use crate::indexed::IndexedStore;
+use crate::regions::{Made, Regions};
+use rs_entry::{Body, Carried, Entry, Mode};
+use rs_key::{Epoch, Kind, Rows};
 use rs_region::{RegionState, Verdict};
 use std::marker::Model;
 
@@ -35,18 +37,6 @@ impl<'a> Model for Standing<'a> {
     ghost view = { λ s. record { source = s.source; commit = s.commit; carried = s.carried.now } };
 }
 
-/// The store's own log of a region.
-pub fn own(store: &Store, region: u64) -> &[Entry]
-    ensures { result.now ≡ own store.now region }
-{
-    for log in store.logs.as_slice() {
-        if log.region == region {
-            return log.entries.as_slice();
-        }
-    }
-    &[]
-}
-
 fn is_fitting(commit: u64, epoch: &Epoch, entry: &Entry) -> bool
     ensures { result ≡ is_fitting commit epoch.now entry.now }
 {
@@ -69,11 +59,23 @@ fn has_rollback(log: &[Entry], commit: u64, epoch: &Epoch) -> bool
     false
 }
 
+/// The entries of the log past the commit.
+fn past(log: &[Entry], commit: u64) -> &[Entry]
+    ensures { result.now ≡ drop (commit - 5) log.now }
+{
+    let start = commit.saturating_sub(5) as usize;
+    if start < log.len() {
+        let (_, rest) = log.split_at(start);
+        return rest;
+    }
+    &[]
+}
+
 pub fn is_paused(log: &[Entry], state: &RegionState) -> bool
     ensures { result ≡ is_paused log.now state.now }
 {
     match state.mode {
-        Mode::Merging { commit, .. } => !has_rollback(log, commit, &state.epoch),
+        Mode::Merging { commit, .. } => !has_rollback(past(log, commit), commit, &state.epoch),
         _ => false,
     }
 }
@@ -96,13 +98,10 @@ pub fn is_accept(verdict: Verdict) -> bool
     }
 }
 
-fn merge_of<'a>(state: &RegionState, entry: &'a Entry) -> Option<Standing<'a>>
-    ensures { result ≡ merge_of state.now (Some entry.now) }
+fn merge_in(body: &Body) -> Option<Standing<'_>>
+    ensures { result ≡ merge_in body.now }
 {
-    if !is_accept(state.verdict(entry)) {
-        return None;
-    }
-    match &entry.body {
+    match body {
         Body::Commit {
             source,
             commit,
@@ -116,19 +115,34 @@ fn merge_of<'a>(state: &RegionState, entry: &'a Entry) -> Option<Standing<'a>>
     }
 }
 
+/// The merge of the entry, where it is a commit that the region accepts.
+#[tactic(auto, using(crate::proofs::Verdicts::no_merge_of))]
+fn merge_of<'a>(state: &RegionState, entry: &'a Entry) -> Option<Standing<'a>>
+    ensures { result ≡ merge_of state.now (Some entry.now) }
+{
+    let Some(merge) = merge_in(&entry.body) else {
+        return None;
+    };
+    if !is_accept(state.verdict(entry)) {
+        return None;
+    }
+    Some(merge)
+}
+
 pub fn own_next(log: &[Entry], applied: u64) -> Option<&Entry>
     ensures { option_copied result ≡ own_next log.now applied }
 {
     log.get(applied.saturating_sub(5) as usize)
 }
 
-pub fn stands<'a>(store: &'a Store, regions: &Regions, id: u64) -> Option<Standing<'a>>
-    ensures { result ≡ stands store.now (bare (seen regions.now)) id }
+/// The merge that the region stands before.
+pub fn stands<'a>(indexed: &IndexedStore<'a>, regions: &Regions, id: u64) -> Option<Standing<'a>>
+    ensures { result ≡ stands indexed.now (bare (seen regions.now)) id }
 {
-    let log = own(store, id);
     let Some(made) = regions.get(id) else {
         return None;
     };
+    let log = indexed.own(id);
     if !goes_on(log, &made.state) {
         return None;
     }
@@ -150,15 +164,15 @@ pub fn find_carried(carried: &[Carried], index: u64) -> Option<&Carried>
 }
 
 fn carried_at<'a>(
-    store: &'a Store,
+    indexed: &IndexedStore<'a>,
     regions: &Regions,
     t: u64,
     id: u64,
     index: u64,
 ) -> Option<&'a Carried>
-    ensures { entry_at (option_copied result) ≡ carried_at id index (stands store.now (bare (seen regions.now)) t) }
+    ensures { entry_at (option_copied result) ≡ carried_at id index (stands indexed.now (bare (seen regions.now)) t) }
 {
-    let Some(merge) = stands(store, regions, t) else {
+    let Some(merge) = stands(indexed, regions, t) else {
         return None;
     };
     if merge.source != id {
@@ -168,39 +182,54 @@ fn carried_at<'a>(
 }
 
 fn carried_next<'a>(
-    store: &'a Store,
+    indexed: &IndexedStore<'a>,
     ids: &[u64],
     regions: &Regions,
     id: u64,
     index: u64,
 ) -> Option<&'a Carried>
-    ensures { entry_at (option_copied result) ≡ carried_next store.now (bare (seen regions.now)) ids.now id index }
+    ensures { entry_at (option_copied result) ≡ carried_next indexed.now (bare (seen regions.now)) ids.now id index }
 {
     for t in ids {
-        if let Some(c) = carried_at(store, regions, *t, id, index) {
+        if let Some(c) = carried_at(indexed, regions, *t, id, index) {
             return Some(c);
         }
     }
     None
 }
 
+/// What is carried for the region at the index.
+fn carried_for<'a>(
+    indexed: &IndexedStore<'a>,
+    standing: &Carriers,
+    regions: &Regions,
+    id: u64,
+    index: u64,
+) -> Option<&'a Carried>
+    requires { carriers standing.now ≡ standing_for indexed.now (bare (seen regions.now)) (ids_of indexed.now) }
+    ensures { entry_at (option_copied result) ≡ carried_next indexed.now (bare (seen regions.now)) (ids_of indexed.now) id index }
+{
+    carried_next(indexed, standing.get(id), regions, id, index)
+}
+
+/// The region's next entry, where it is at hand.
 #[tactic(auto, using(crate::proofs::Verdicts::formed_carried))]
 pub fn next<'a>(
-    store: &'a Store,
-    ids: &[u64],
+    indexed: &IndexedStore<'a>,
+    standing: &Carriers,
     regions: &Regions,
     id: u64,
     made: &Made,
 ) -> Option<Line<'a>>
-    requires ids { ids.now ≡ ids_of store.now }
+    requires standing { carriers standing.now ≡ standing_for indexed.now (bare (seen regions.now)) (ids_of indexed.now) }
     requires low { made.now.applied < 2 ^ 62 }
-    ensures value { option_map line_entry result ≡ next store.now (bare (seen regions.now)) id made.now }
-    ensures formed { IsFormedStore store.now → IfSome result (λ line. IsFormed (line_entry line).body) }
+    ensures value { option_map line_entry result ≡ next indexed.now (bare (seen regions.now)) id made.now }
+    ensures formed { IsFormedStore indexed.now → IfSome result (λ line. IsFormed (line_entry line).body) }
 {
-    if let Some(entry) = own_next(own(store, id), made.applied) {
+    if let Some(entry) = own_next(indexed.own(id), made.applied) {
         return Some(Line::Own(entry));
     }
-    match carried_next(store, ids, regions, id, made.applied + 1) {
+    match carried_for(indexed, standing, regions, id, made.applied + 1) {
         None => None,
         Some(c) => Some(Line::Carried(c)),
     }
@@ -215,18 +244,18 @@ fn has_applied(regions: &Regions, id: u64, commit: u64) -> bool
     }
 }
 
-pub fn is_ready(store: &Store, ids: &[u64], regions: &Regions, id: u64) -> bool
-    requires ids { ids.now ≡ ids_of store.now }
+pub fn is_ready(indexed: &IndexedStore<'_>, standing: &Carriers, regions: &Regions, id: u64) -> bool
+    requires standing { carriers standing.now ≡ standing_for indexed.now (bare (seen regions.now)) (ids_of indexed.now) }
     requires low { IsAllLow (seen regions.now) }
-    ensures { result ≡ is_ready store.now (bare (seen regions.now)) id }
+    ensures { result ≡ is_ready indexed.now (bare (seen regions.now)) id }
 {
     let Some(made) = regions.get(id) else {
         return false;
     };
-    if !goes_on(own(store, id), &made.state) {
+    if !goes_on(indexed.own(id), &made.state) {
         return false;
     }
-    match next(store, ids, regions, id, made) {
+    match next(indexed, standing, regions, id, made) {
         None => false,
         Some(Line::Carried(_)) => true,
         Some(Line::Own(entry)) => match merge_of(&made.state, entry) {

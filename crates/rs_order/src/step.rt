@@ -8,11 +8,14 @@ ghost use Rattle.rs_region.specs.declared.verdict.Verdict.TheVariants as verdict
 ghost use Rattle.rs_order.specs.declared.regions.Made.{Made};
 ghost use Rattle.rs_order.specs.Stores.{ids_of, own, is_paused, step, step_by, accept, commit_in, with_region, with_regions, is_prepared_for, commit_with, as_merged, passed, reshaped, born, conf_changed, is_removal_of};
 ghost use Rattle.rs_order.specs.Runs.{seen, bare, forget, told, Moved, IsLow, IsAllLow, IsFormed, IsFormedStore, line_entry, is_bad};
+ghost use Rattle.rs_order.specs.Carriers.{carriers, standing_for};
 
+use crate::carriers::Carriers;
 use crate::fault::StepFault;
+use crate::indexed::IndexedStore;
 use crate::regions::{Made, Origin, Regions};
-use crate::run::{Line, is_accept, is_paused, next, own};
-use rs_entry::{Body, CarriedBody, Change, Mode, Side, Store};
+use crate::run::{Line, is_accept, is_paused, next};
+use rs_entry::{Body, CarriedBody, Change, Mode, Side};
 use rs_key::{Key, NoMemory, Rows};
 use rs_region::{RegionState, Verdict};
 use std::alloc::Global;
@@ -226,14 +229,14 @@ fn roll_back(regions: &mut Regions, id: u64, made: Made) -> Result<Option<StepFa
 }
 
 fn change_peers(
-    store: &Store,
+    indexed: &IndexedStore<'_>,
     regions: &mut Regions,
     id: u64,
     made: Made,
     change: &Change,
 ) -> Result<Option<StepFault>, NoMemory>
     requires low { IsLow id made }
-    ensures { IfOk result (λ fault. told fault (seen regions.new) ≡ Moved (with_region (seen regions.old) id (reshaped made (conf_changed store.now.id made.state change.now)))) }
+    ensures { IfOk result (λ fault. told fault (seen regions.new) ≡ Moved (with_region (seen regions.old) id (reshaped made (conf_changed indexed.now.id made.state change.now)))) }
 {
     let Made {
         state,
@@ -241,7 +244,7 @@ fn change_peers(
         origin,
         reshapings,
     } = recorded(made)?;
-    let state = conf_changed(store.id, state, change)?;
+    let state = conf_changed(indexed.store().id, state, change)?;
     regions.put(
         id,
         Made {
@@ -276,14 +279,14 @@ fn is_removal_of(store: u64, change: &Change) -> bool
     }
 }
 
-fn may_join(store: &Store, id: u64, source: u64, commit: u64, taken: &Made) -> bool
-    ensures { result ≡ (is_prepared_for id commit taken.now.state.mode && is_paused (own store.now source) taken.now.state) }
+fn may_join(indexed: &IndexedStore<'_>, id: u64, source: u64, commit: u64, taken: &Made) -> bool
+    ensures { result ≡ (is_prepared_for id commit taken.now.state.mode && is_paused (own indexed.now source) taken.now.state) }
 {
-    is_prepared_for(id, commit, taken.state.mode) && is_paused(own(store, source), &taken.state)
+    is_prepared_for(id, commit, taken.state.mode) && is_paused(indexed.own(source), &taken.state)
 }
 
 fn commit(
-    store: &Store,
+    indexed: &IndexedStore<'_>,
     regions: &mut Regions,
     id: u64,
     made: Made,
@@ -294,7 +297,7 @@ fn commit(
     requires all { IsAllLow (seen regions.old) }
     requires out { seen regions.old id ≡ None }
     requires merging { is_prepared_for id commit made.state.mode ≡ false }
-    ensures { IfOk result (λ fault. (b : Body) → forget (commit_with store.now (bare (with_region (seen regions.old) id made)) id made b source commit (with_region (seen regions.old) id made source)) ≡ told fault (seen regions.new)) }
+    ensures { IfOk result (λ fault. (b : Body) → forget (commit_with indexed.now (bare (with_region (seen regions.old) id made)) id made b source commit (with_region (seen regions.old) id made source)) ≡ told fault (seen regions.new)) }
 {
     let Some(taken) = regions.take(source) else {
         return Ok(Some(StepFault::NotPrepared {
@@ -304,7 +307,7 @@ fn commit(
             commit,
         }));
     };
-    if !may_join(store, id, source, commit, &taken) {
+    if !may_join(indexed, id, source, commit, &taken) {
         return Ok(Some(StepFault::NotPrepared {
             region: id,
             index: made.applied + 1,
@@ -374,7 +377,7 @@ fn join(
 
 #[tactic(auto, using(crate::proofs::Updates::put_over))]
 fn accept(
-    store: &Store,
+    indexed: &IndexedStore<'_>,
     regions: &mut Regions,
     id: u64,
     made: Made,
@@ -385,7 +388,7 @@ fn accept(
     requires out { seen regions.old id ≡ None }
     requires formed { IsFormed (line_entry line).body }
     requires accepted { verdict made.state (line_entry line) ≡ verdicts.Accept }
-    ensures { IfOk result (λ fault. forget (accept store.now (bare (with_region (seen regions.old) id made)) id made (line_entry line.entry).body) ≡ told fault (seen regions.new)) }
+    ensures { IfOk result (λ fault. forget (accept indexed.now (bare (with_region (seen regions.old) id made)) id made (line_entry line.entry).body) ≡ told fault (seen regions.new)) }
 {
     match line {
         Line::Own(entry) => match &entry.body {
@@ -397,9 +400,9 @@ fn accept(
                 source,
                 commit: at,
                 ..
-            } => Ok(commit(store, regions, id, made, *source, *at)?),
+            } => Ok(commit(indexed, regions, id, made, *source, *at)?),
             Body::Rollback { .. } => Ok(roll_back(regions, id, made)?),
-            Body::Conf { change } => Ok(change_peers(store, regions, id, made, change)?),
+            Body::Conf { change } => Ok(change_peers(indexed, regions, id, made, change)?),
         },
         Line::Carried(entry) => match &entry.body {
             CarriedBody::Empty => Ok(pass(regions, id, made)?),
@@ -411,7 +414,7 @@ fn accept(
 
 #[tactic(auto, using(crate::proofs::Verdicts::refused, crate::proofs::Updates::put_over, crate::proofs::Verdicts::broken, crate::proofs::Verdicts::accept_is))]
 fn apply(
-    store: &Store,
+    indexed: &IndexedStore<'_>,
     regions: &mut Regions,
     id: u64,
     made: Made,
@@ -421,11 +424,11 @@ fn apply(
     requires all { IsAllLow (seen regions.old) }
     requires out { seen regions.old id ≡ None }
     requires formed { IsFormed (line_entry line).body }
-    ensures { IfOk result (λ fault. forget (step_by (verdict made.state (line_entry line.entry)) store.now (bare (with_region (seen regions.old) id made)) id made (line_entry line.entry)) ≡ told fault (seen regions.new)) }
+    ensures { IfOk result (λ fault. forget (step_by (verdict made.state (line_entry line.entry)) indexed.now (bare (with_region (seen regions.old) id made)) id made (line_entry line.entry)) ≡ told fault (seen regions.new)) }
 {
     let verdict = verdict_of(&made.state, line);
     if is_accept(verdict) {
-        return Ok(accept(store, regions, id, made, line)?);
+        return Ok(accept(indexed, regions, id, made, line)?);
     }
     if is_bad(verdict) {
         return Ok(Some(StepFault::BadRollback {
@@ -441,24 +444,24 @@ fn apply(
 /// The region's next entry, applied.
 #[tactic(auto, using(crate::proofs::Updates::put_back, crate::proofs::Updates::rest_low, crate::proofs::Updates::out_is_out))]
 pub fn step(
-    store: &Store,
-    ids: &[u64],
+    indexed: &IndexedStore<'_>,
+    standing: &Carriers,
     regions: &mut Regions,
     id: u64,
 ) -> Result<Option<StepFault>, NoMemory>
-    requires ids { ids.now ≡ ids_of store.now }
+    requires standing { carriers standing.now ≡ standing_for indexed.now (bare (seen regions.old)) (ids_of indexed.now) }
     requires low { IsAllLow (seen regions.old) }
-    requires formed { IsFormedStore store.now }
-    ensures { IfOk result (λ fault. forget (step store.now (bare (seen regions.old)) id) ≡ told fault (seen regions.new)) }
+    requires formed { IsFormedStore indexed.now }
+    ensures { IfOk result (λ fault. forget (step indexed.now (bare (seen regions.old)) id) ≡ told fault (seen regions.new)) }
 {
     let Some(found) = regions.get(id) else {
         return Ok(None);
     };
-    let Some(line) = next(store, ids, regions, id, found) else {
+    let Some(line) = next(indexed, standing, regions, id, found) else {
         return Ok(None);
     };
     let Some(made) = regions.take(id) else {
         return Ok(None);
     };
-    Ok(apply(store, regions, id, made, line)?)
+    Ok(apply(indexed, regions, id, made, line)?)
 }

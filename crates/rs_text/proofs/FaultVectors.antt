@@ -3,6 +3,7 @@ use Rattle.std.proofs.Common.{◌≡◌, ℕ, zero, suc, ◌+◌, List, [], ◌+
 use Rattle.std.specs.Fmt.{decimal}
 use Rattle.rs_field.specs.declared.fault.TextKind.TheVariants.{BadHeader, BadLine, BadNumber, BadKey, BadIndex, BadCarry, Limit, NoEnd}
 use Rattle.rs_text.specs.Reading.{read_text}
+use Rattle.rs_text.proofs.LongTexts.{times, numbered}
 use Rattle.rs_text.proofs.OnLiterals.{texts_on_literals}
 
 -- between the first line and the last
@@ -11,16 +12,6 @@ in_1 lines = codes "raftreplay 1\n" ++ lines ++ codes "end\n"
 
 abbrev in_2 : List ℕ → List ℕ
 in_2 lines = codes "raftreplay 2\n" ++ lines ++ codes "end\n"
-
--- so many times the same
-abbrev times : ℕ → List ℕ → List ℕ
-times zero t = []
-times (suc n) t = t ++ times n t
-
--- so many numbers, each between the two
-abbrev numbered : ℕ → ℕ → List ℕ → List ℕ → List ℕ
-numbered zero from before after = []
-numbered (suc n) from before after = before ++ decimal from ++ after ++ numbered n (from + 1) before after
 
 -- 64 splits with 64 pairs each: as many as a file may have, in an open log
 abbrev splits : ℕ → ℕ → List ℕ

@@ -124,9 +124,6 @@ plain_found v ss s rs last ls l es n b c o e fields g sp y at i k h boots lines 
 
 -- ---- commits
 
-commit_body : ℕ → ℕ → List Carried → Body
-commit_body source commit cs = body.Commit source commit cs
-
 -- a commit without carried entries
 empty_commit_found : (v : ℕ) (ss : List Store) (s : ℕ) (rs : List Boot) (last : ℕ) (ls : List Log) (l : ℕ) (es : List Entry) (n b c o index : ℕ) (epoch : Epoch) (source commit : ℕ) (fields : Fields) → Good (mk v ss s rs last ls (suc l) es n None b c o)
     → SpellsFields fields (head index epoch (Exact (codes "commit") ∷ number source ∷ number commit ∷ number 0 ∷ [])) → index ≡ n → IsNumber index → IsEpoch epoch → IsId source → IsNumber commit → c < 1048576

@@ -7,6 +7,7 @@ pub mod FoundBodies
 pub mod FoundEntries
 pub mod FoundLines
 pub mod FoundTexts
+pub mod LongTexts
 pub mod OnLiterals
 pub mod OnlyBodies
 pub mod OnlyEntries

@@ -1,24 +1,14 @@
 -- Texts that are read, and written again as their canonical text.
-use Rattle.std.proofs.Common.{◌≡◌, ℕ, zero, suc, ◌+◌, List, [], ◌++◌, codes, Result, Ok, Err, refl}
-use Rattle.std.specs.Fmt.{decimal}
+use Rattle.std.proofs.Common.{◌≡◌, ℕ, List, ◌++◌, codes, Result, Ok, Err, refl}
 use Rattle.rs_entry.specs.declared.input.Input.{Input}
 use Rattle.rs_text.specs.Logs.{text_of}
 use Rattle.rs_text.specs.Reading.{Fault, read_text}
+use Rattle.rs_text.proofs.LongTexts.{times, numbered}
 use Rattle.rs_text.proofs.OnLiterals.{texts_on_literals}
 
 abbrev written : Result Input Fault → Result (List ℕ) Fault
 written (Ok x) = Ok (text_of x)
 written (Err f) = Err f
-
--- so many times the same
-abbrev times : ℕ → List ℕ → List ℕ
-times zero t = []
-times (suc n) t = t ++ times n t
-
--- so many numbers, each between the two
-abbrev numbered : ℕ → ℕ → List ℕ → List ℕ → List ℕ
-numbered zero from before after = []
-numbered (suc n) from before after = before ++ decimal from ++ after ++ numbered n (from + 1) before after
 
 abbrev no_stores_text : List ℕ
 no_stores_text = codes "raftreplay 1\nend\n"

@@ -58,14 +58,14 @@ fn ops(alloc: Global, total: u64, fields: &mut Fields<'_>) -> Result<Rows<Op>, L
 {
     let mut ops = Rows::with_room(alloc, 1);
     for count in 0..WRITE_OPERATIONS {
-        let Some(word) = fields.next() else {
+        let Some(word) = fields.next_field() else {
             return Ok(ops);
         };
         let room = total + count < OPERATIONS;
         let next = op(alloc, room, word, fields)?;
         ops.push(next)?;
     }
-    let Some(word) = fields.next() else {
+    let Some(word) = fields.next_field() else {
         return Ok(ops);
     };
     op(alloc, false, word, fields)?;
@@ -85,6 +85,7 @@ pub fn write(alloc: Global, total: u64, fields: &mut Fields<'_>) -> Result<Rows<
     Ok(ops)
 }
 
+/// The side of a split.
 #[tactic(auto, unfolding(crate::specs::Bodies::side_at))]
 fn side(fields: &mut Fields<'_>) -> Result<Side, TextKind>
     ensures { TakesPlain result fields.new (side_at fields.old) }
@@ -124,14 +125,14 @@ fn pairs(alloc: Global, boots: u64, fields: &mut Fields<'_>) -> Result<Rows<(u64
 {
     let mut pairs = Rows::new(alloc);
     for count in 0..SPLIT_PAIRS {
-        let Some(field) = fields.next() else {
+        let Some(field) = fields.next_field() else {
             return Ok(pairs);
         };
         let room = boots + count < BOOTS;
         let next = pair(alloc, room, field, fields)?;
         pairs.push(next)?;
     }
-    let Some(field) = fields.next() else {
+    let Some(field) = fields.next_field() else {
         return Ok(pairs);
     };
     pair(alloc, false, field, fields)?;
@@ -206,7 +207,7 @@ fn peers(alloc: Global, fields: &mut Fields<'_>) -> Result<Rows<u64>, LineError>
     let mut ids = Rows::new(alloc);
     let mut before = 0;
     for count in 0..PEERS {
-        let Some(field) = fields.next() else {
+        let Some(field) = fields.next_field() else {
             return Ok(ids);
         };
         let id = match id_of(field) {
@@ -219,7 +220,7 @@ fn peers(alloc: Global, fields: &mut Fields<'_>) -> Result<Rows<u64>, LineError>
         ids.push(id)?;
         before = id;
     }
-    let Some(field) = fields.next() else {
+    let Some(field) = fields.next_field() else {
         return Ok(ids);
     };
     match id_of(field) {

@@ -1,7 +1,7 @@
 //! The texts of faults.
 
-ghost use Rattle.std.specs.Prelude.{◌≡◌, ◌++◌, ◌∷◌, [], OnOk, IfOk, codes};
-ghost use Rattle.rs_field.specs.Forms.{more_text, fields_text, line_text, lines_text};
+ghost use Rattle.std.specs.Prelude.{◌≡◌, ◌++◌, ◌∷◌, [], IfOk, codes};
+ghost use Rattle.rs_field.specs.Forms.{Appends, more_text, fields_text, line_text, lines_text};
 ghost use Rattle.rs_text.specs.Outcomes.{mode_forms};
 ghost use Rattle.rs_text.specs.FaultTexts.{kind_form, syntax_text, unlawful, statement_forms, range_forms, fault_lines, fault_text};
 
@@ -15,7 +15,7 @@ use std::alloc::Global;
 
 /// Appends the kind of a fault behind other fields.
 fn put_kind(out: &mut Vec<u8>, kind: TextKind) -> Result<(), NoMemory>
-    ensures { OnOk result (out.new.items ≡ out.old.items ++ more_text (kind_form kind ∷ [])) }
+    ensures { Appends result out.old out.new (more_text (kind_form kind ∷ [])) }
 {
     match kind {
         TextKind::BadHeader => put_word(out, " BadHeader"),
@@ -44,7 +44,7 @@ pub fn write_syntax(alloc: Global, line: u64, kind: TextKind) -> Result<Vec<u8>,
 
 /// Appends the fields of a fault's first line: its name and numbers.
 fn put_unlawful(out: &mut Vec<u8>, name: &str, numbers: &[u64]) -> Result<(), NoMemory>
-    ensures { OnOk result (out.new.items ≡ out.old.items ++ fields_text (unlawful name.now numbers.now)) }
+    ensures { Appends result out.old out.new (fields_text (unlawful name.now numbers.now)) }
 {
     put_word(out, "unlawful ")?;
     put_word(out, name)?;
@@ -53,7 +53,7 @@ fn put_unlawful(out: &mut Vec<u8>, name: &str, numbers: &[u64]) -> Result<(), No
 
 /// Appends the one line of a fault that has no other.
 fn put_alone(out: &mut Vec<u8>, name: &str, numbers: &[u64]) -> Result<(), NoMemory>
-    ensures { OnOk result (out.new.items ≡ out.old.items ++ line_text (unlawful name.now numbers.now)) }
+    ensures { Appends result out.old out.new (line_text (unlawful name.now numbers.now)) }
 {
     put_unlawful(out, name, numbers)?;
     put_word(out, "\n")
@@ -92,7 +92,7 @@ impl<'a> Line for RangeLine<'a> {
 
 /// Appends the line of a bad rollback, which ends with the region's mode.
 fn put_bad_rollback(out: &mut Vec<u8>, numbers: &[u64], mode: &Mode) -> Result<(), NoMemory>
-    ensures { OnOk result (out.new.items ≡ out.old.items ++ line_text (unlawful (codes "badrollback") numbers.now ++ mode_forms mode.now)) }
+    ensures { Appends result out.old out.new (line_text (unlawful (codes "badrollback") numbers.now ++ mode_forms mode.now)) }
 {
     put_unlawful(out, "badrollback", numbers)?;
     put_mode(out, mode)?;
@@ -107,15 +107,16 @@ fn put_pair<T: Line>(
     one: &T,
     other: &T,
 ) -> Result<(), NoMemory>
-    ensures { OnOk result (out.new.items ≡ out.old.items ++ lines_text (unlawful name.now numbers.now ∷ T.line one.now ∷ T.line other.now ∷ [])) }
+    ensures { Appends result out.old out.new (lines_text (unlawful name.now numbers.now ∷ T.line one.now ∷ T.line other.now ∷ [])) }
 {
     put_alone(out, name, numbers)?;
     one.put_line(out)?;
     other.put_line(out)
 }
 
+/// Appends the lines of a fault.
 fn put_fault(out: &mut Vec<u8>, fault: &LawFault) -> Result<(), NoMemory>
-    ensures { OnOk result (out.new.items ≡ out.old.items ++ lines_text (fault_lines fault.now)) }
+    ensures { Appends result out.old out.new (lines_text (fault_lines fault.now)) }
 {
     match fault {
         LawFault::Differ {

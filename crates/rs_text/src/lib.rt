@@ -1,4 +1,9 @@
 //! The log text, read and written, and the texts of what came of it.
+//!
+//! A text belongs to an input where the input is well formed and the text is its canonical one, up to spaces
+//! and the case of hexadecimal digits. The reader gives the input that a text belongs to, or the first fault;
+//! the writers give the canonical text of an input, the text of an outcome, of the history of one key, and of
+//! each fault. docs/FORMAT.md shows them all.
 #![tactic(auto)]
 
 mod bodies;

@@ -1,9 +1,9 @@
 //! The canonical text of an input.
 
-ghost use Rattle.std.specs.Prelude.{◌≡◌, ◌++◌, ◌∷◌, [], Ok, OnOk, IfOk};
+ghost use Rattle.std.specs.Prelude.{◌≡◌, ◌∷◌, [], Ok, IfOk};
 ghost use Rattle.std.specs.List.{flat_map};
 ghost use Rattle.rs_entry.specs.WellFormed.{WellFormed};
-ghost use Rattle.rs_field.specs.Forms.{more_text, fields_text};
+ghost use Rattle.rs_field.specs.Forms.{Appends, more_text, fields_text};
 ghost use Rattle.rs_text.specs.Reading.{read_text};
 ghost use Rattle.rs_text.specs.Grammar.{Belongs};
 ghost use Rattle.rs_text.specs.Logs.{op_forms, side, pair_forms, change_forms, body_forms, carried_body_forms, entry_forms, carried_forms, carry_forms, entry_lines, log_lines, region_forms, store_lines, text_of};
@@ -16,7 +16,7 @@ use std::alloc::Global;
 
 /// Appends an operation behind other fields.
 fn put_op(out: &mut Vec<u8>, op: &Op) -> Result<(), NoMemory>
-    ensures { OnOk result (out.new.items ≡ out.old.items ++ more_text (op_forms op.now)) }
+    ensures { Appends result out.old out.new (more_text (op_forms op.now)) }
 {
     match op {
         Op::Put(key, value) => {
@@ -33,7 +33,7 @@ fn put_op(out: &mut Vec<u8>, op: &Op) -> Result<(), NoMemory>
 
 /// Appends operations behind other fields.
 fn put_ops(out: &mut Vec<u8>, ops: &[Op]) -> Result<(), NoMemory>
-    ensures { OnOk result (out.new.items ≡ out.old.items ++ more_text (flat_map op_forms ops.now)) }
+    ensures { Appends result out.old out.new (more_text (flat_map op_forms ops.now)) }
 {
     for op in ops {
         put_op(out, op)?;
@@ -43,7 +43,7 @@ fn put_ops(out: &mut Vec<u8>, ops: &[Op]) -> Result<(), NoMemory>
 
 /// Appends a side behind other fields.
 fn put_side(out: &mut Vec<u8>, s: Side) -> Result<(), NoMemory>
-    ensures { OnOk result (out.new.items ≡ out.old.items ++ more_text (side s ∷ [])) }
+    ensures { Appends result out.old out.new (more_text (side s ∷ [])) }
 {
     match s {
         Side::Right => put_word(out, " right"),
@@ -53,7 +53,7 @@ fn put_side(out: &mut Vec<u8>, s: Side) -> Result<(), NoMemory>
 
 /// Appends the pairs of a split behind other fields.
 fn put_pairs(out: &mut Vec<u8>, ids: &[u64], keys: &[Key]) -> Result<(), NoMemory>
-    ensures { OnOk result (out.new.items ≡ out.old.items ++ more_text (pair_forms ids.now keys.now)) }
+    ensures { Appends result out.old out.new (more_text (pair_forms ids.now keys.now)) }
 {
     for i in 0..ids.len() {
         if i >= keys.len() {
@@ -67,7 +67,7 @@ fn put_pairs(out: &mut Vec<u8>, ids: &[u64], keys: &[Key]) -> Result<(), NoMemor
 
 /// Appends a change of peers behind other fields.
 fn put_change(out: &mut Vec<u8>, change: Change) -> Result<(), NoMemory>
-    ensures { OnOk result (out.new.items ≡ out.old.items ++ more_text (change_forms change)) }
+    ensures { Appends result out.old out.new (more_text (change_forms change)) }
 {
     match change {
         Change::Add(peer) => {
@@ -83,7 +83,7 @@ fn put_change(out: &mut Vec<u8>, change: Change) -> Result<(), NoMemory>
 
 /// Appends a body behind other fields.
 fn put_body(out: &mut Vec<u8>, body: &Body) -> Result<(), NoMemory>
-    ensures { OnOk result (out.new.items ≡ out.old.items ++ more_text (body_forms body.now)) }
+    ensures { Appends result out.old out.new (more_text (body_forms body.now)) }
 {
     match body {
         Body::Empty => put_word(out, " empty"),
@@ -120,7 +120,7 @@ fn put_body(out: &mut Vec<u8>, body: &Body) -> Result<(), NoMemory>
 
 /// Appends the body of a carried entry behind other fields.
 fn put_carried_body(out: &mut Vec<u8>, body: &CarriedBody) -> Result<(), NoMemory>
-    ensures { OnOk result (out.new.items ≡ out.old.items ++ more_text (carried_body_forms body.now)) }
+    ensures { Appends result out.old out.new (more_text (carried_body_forms body.now)) }
 {
     match body {
         CarriedBody::Empty => put_word(out, " empty"),
@@ -137,7 +137,7 @@ fn put_carried_body(out: &mut Vec<u8>, body: &CarriedBody) -> Result<(), NoMemor
 
 /// Appends the fields of a region's line.
 pub fn put_region(out: &mut Vec<u8>, boot: &Boot) -> Result<(), NoMemory>
-    ensures { OnOk result (out.new.items ≡ out.old.items ++ fields_text (region_forms boot.now)) }
+    ensures { Appends result out.old out.new (fields_text (region_forms boot.now)) }
 {
     put_word(out, "region")?;
     boot.region.put(out)?;
@@ -156,7 +156,7 @@ impl Line for Boot {
 
 /// Appends the fields of an entry's own line.
 pub fn put_entry(out: &mut Vec<u8>, entry: &Entry) -> Result<(), NoMemory>
-    ensures { OnOk result (out.new.items ≡ out.old.items ++ fields_text (entry_forms entry.now)) }
+    ensures { Appends result out.old out.new (fields_text (entry_forms entry.now)) }
 {
     put_number(out, entry.index)?;
     entry.epoch.put(out)?;
@@ -165,7 +165,7 @@ pub fn put_entry(out: &mut Vec<u8>, entry: &Entry) -> Result<(), NoMemory>
 
 /// Appends the fields of a carried entry, without the word `carry`.
 pub fn put_carried(out: &mut Vec<u8>, carried: &Carried) -> Result<(), NoMemory>
-    ensures { OnOk result (out.new.items ≡ out.old.items ++ fields_text (carried_forms carried.now)) }
+    ensures { Appends result out.old out.new (fields_text (carried_forms carried.now)) }
 {
     put_number(out, carried.index)?;
     carried.epoch.put(out)?;
@@ -231,6 +231,7 @@ pub fn write_logs(alloc: Global, input: &Input) -> Result<Vec<u8>, NoMemory>
     Ok(text)
 }
 
+/// The canonical text of an input.
 #[tactic(auto, unfolding(crate::specs::Logs::text_of, crate::specs::Logs::lines_of))]
 fn canonical_text(alloc: Global, input: &Input) -> Result<Vec<u8>, NoMemory>
     ensures { IfOk result (λ v. v.items ≡ text_of input.now) }

@@ -1,10 +1,9 @@
 //! The texts of an outcome, and of the history of one key.
 
-ghost use Rattle.std.specs.Prelude.{◌≡◌, ◌++◌, ◌∷◌, [], OnOk, IfOk, map, find};
-ghost use Rattle.std.specs.List.{flat_map};
+ghost use Rattle.std.specs.Prelude.{◌≡◌, ◌∷◌, [], IfOk, map, find};
 ghost use Rattle.std.specs.Option.{option_copied};
 ghost use Rattle.rs_key.specs.Keys.{same_bytes};
-ghost use Rattle.rs_field.specs.Forms.{more_text, lines_text};
+ghost use Rattle.rs_field.specs.Forms.{Appends, more_text, lines_text};
 ghost use Rattle.rs_text.specs.Outcomes.{mode_forms, peers_forms, state_forms, region_line, reply_forms, reply_line, pair_line, item, history_line, store_lines, outcome_text, key_lines, history_text};
 
 use crate::writing::{Block, Line, put_blocks, put_lines};
@@ -15,7 +14,7 @@ use std::alloc::Global;
 
 /// Appends a mode behind other fields.
 pub fn put_mode(out: &mut Vec<u8>, mode: &Mode) -> Result<(), NoMemory>
-    ensures { OnOk result (out.new.items ≡ out.old.items ++ more_text (mode_forms mode.now)) }
+    ensures { Appends result out.old out.new (more_text (mode_forms mode.now)) }
 {
     match mode {
         Mode::Normal => put_word(out, " normal"),
@@ -34,7 +33,7 @@ pub fn put_mode(out: &mut Vec<u8>, mode: &Mode) -> Result<(), NoMemory>
 
 /// Appends peers behind other fields, where there are any.
 fn put_peers(out: &mut Vec<u8>, peers: &Rows<u64>) -> Result<(), NoMemory>
-    ensures { OnOk result (out.new.items ≡ out.old.items ++ more_text (peers_forms peers.now)) }
+    ensures { Appends result out.old out.new (more_text (peers_forms peers.now)) }
 {
     if peers.is_empty() {
         return Ok(());
@@ -59,7 +58,7 @@ impl Line for RegionLine {
 /// Appends behind other fields how far a region came, and what it is at the end.
 #[tactic(auto, unfolding(crate::specs::Outcomes::state_forms))]
 fn put_state(out: &mut Vec<u8>, region: &RegionLine) -> Result<(), NoMemory>
-    ensures { OnOk result (out.new.items ≡ out.old.items ++ more_text (state_forms region.now)) }
+    ensures { Appends result out.old out.new (more_text (state_forms region.now)) }
 {
     put_named(out, "applied", &region.applied)?;
     put_named(out, "left", &region.left)?;
@@ -69,7 +68,7 @@ fn put_state(out: &mut Vec<u8>, region: &RegionLine) -> Result<(), NoMemory>
 
 /// Appends a reply behind other fields.
 fn put_reply(out: &mut Vec<u8>, reply: &Reply) -> Result<(), NoMemory>
-    ensures { OnOk result (out.new.items ≡ out.old.items ++ more_text (reply_forms reply.now)) }
+    ensures { Appends result out.old out.new (more_text (reply_forms reply.now)) }
 {
     match reply {
         Reply::Done(version) => {
@@ -122,7 +121,7 @@ impl Line for Pair {
 
 /// Appends one write of a key behind other fields.
 fn put_item(out: &mut Vec<u8>, i: &Item) -> Result<(), NoMemory>
-    ensures { OnOk result (out.new.items ≡ out.old.items ++ more_text (item i.now ∷ [])) }
+    ensures { Appends result out.old out.new (more_text (item i.now ∷ [])) }
 {
     put_word(out, " ")?;
     put_number(out, i.region)?;
@@ -139,7 +138,7 @@ fn put_item(out: &mut Vec<u8>, i: &Item) -> Result<(), NoMemory>
 
 /// Appends the writes of a key behind other fields.
 fn put_items(out: &mut Vec<u8>, items: &[Item]) -> Result<(), NoMemory>
-    ensures { OnOk result (out.new.items ≡ out.old.items ++ more_text (map item items.now)) }
+    ensures { Appends result out.old out.new (more_text (map item items.now)) }
 {
     for item in items {
         put_item(out, item)?;
@@ -191,7 +190,7 @@ fn history_of<'a>(key: &Key, store: &'a StoreOutcome) -> Option<&'a KeyHistory>
 
 /// Appends the lines of a key's history on a store.
 fn put_key_lines(out: &mut Vec<u8>, key: &Key, store: &StoreOutcome) -> Result<(), NoMemory>
-    ensures { OnOk result (out.new.items ≡ out.old.items ++ lines_text (key_lines key.now store.now)) }
+    ensures { Appends result out.old out.new (lines_text (key_lines key.now store.now)) }
 {
     put_word(out, "store")?;
     store.id.put(out)?;

@@ -78,13 +78,13 @@ fn header_of(line: &[u8]) -> Option<u64>
     ensures { result ≡ header_of (fields_of line.now) }
 {
     let mut fields = Fields::new(line);
-    let Some(first) = fields.next() else {
+    let Some(first) = fields.next_field() else {
         return None;
     };
-    let Some(second) = fields.next() else {
+    let Some(second) = fields.next_field() else {
         return None;
     };
-    if fields.next().is_some() {
+    if fields.next_field().is_some() {
         return None;
     }
     if !is_word(first, "raftreplay") {

@@ -2,10 +2,8 @@ use crate::{
     TextError, TextKind, read_logs, write_fault, write_history, write_logs, write_outcome,
     write_syntax,
 };
-use rs_entry::{
-    Item, KeyHistory, LawFault, Mode, Outcome, Pair, RegionLine, Reply, ReplyLine, StoreOutcome,
-};
-use rs_key::{Epoch, Key, NoMemory, Range, Rows, Value};
+use rs_entry::{Item, KeyHistory, LawFault, Outcome, StoreOutcome};
+use rs_key::{Key, NoMemory, Rows};
 use std::alloc::Global;
 use std::test::Fail;
 
@@ -80,35 +78,8 @@ fn list<T: Drop>(alloc: Global, one: T) -> Result<Rows<T>, NoMemory> {
     Ok(rows)
 }
 
-/// One store with one line of each kind.
+/// One store with one deletion of the key `a`.
 fn small_outcome(alloc: Global) -> Result<Outcome, Fail> {
-    let Ok(range) = Range::new(None, None) else {
-        return Err(Fail::from("no range"));
-    };
-    let region = RegionLine {
-        region: 1,
-        epoch: Epoch {
-            conf_ver: 1,
-            version: 4,
-        },
-        range,
-        mode: Mode::Merging {
-            target: 2,
-            commit: 6,
-        },
-        applied: 13,
-        left: 1,
-        peers: list(alloc, 3)?,
-    };
-    let reply = ReplyLine {
-        region: 1,
-        index: 6,
-        reply: Reply::Outside(Key::new(alloc, b"m")?),
-    };
-    let pair = Pair {
-        key: Key::new(alloc, b"a")?,
-        value: Value::new(alloc, b"0")?,
-    };
     let item = Item {
         region: 1,
         index: 8,
@@ -120,9 +91,9 @@ fn small_outcome(alloc: Global) -> Result<Outcome, Fail> {
     };
     let store = StoreOutcome {
         id: 1,
-        regions: list(alloc, region)?,
-        replies: list(alloc, reply)?,
-        pairs: list(alloc, pair)?,
+        regions: Rows::new(alloc),
+        replies: Rows::new(alloc),
+        pairs: Rows::new(alloc),
         histories: list(alloc, history)?,
     };
     Ok(Outcome {
@@ -134,34 +105,20 @@ fn small_outcome(alloc: Global) -> Result<Outcome, Fail> {
 fn outcomes_and_faults_are_written(rt: HostRuntime) -> Result<(), Fail> {
     let alloc = rt.alloc();
     let outcome = small_outcome(alloc)?;
-    assert_eq!(rt;
-        write_outcome(alloc, &outcome)?.as_slice(),
-        b"store 1\n\
-        region 1 epoch 1 4 range - - applied 13 left 1 merging 2 6 peers 3\n\
-        reply 1 6 outside 6d\npair 61 30\nhistory 61 1/8!\n"
-            .as_slice()
-    );
+    let text = b"store 1\nhistory 61 1/8!\n".as_slice();
+    assert_eq!(rt; write_outcome(alloc, &outcome)?.as_slice(), text);
     let key = Key::new(alloc, b"a")?;
-    assert_eq!(rt;
-        write_history(alloc, &outcome, &key)?.as_slice(),
-        b"store 1\nhistory 61 1/8!\n".as_slice()
-    );
+    assert_eq!(rt; write_history(alloc, &outcome, &key)?.as_slice(), text);
     let other = Key::new(alloc, b"b")?;
-    assert_eq!(rt;
-        write_history(alloc, &outcome, &other)?.as_slice(),
-        b"store 1\nhistory 62\n".as_slice()
-    );
+    let text = b"store 1\nhistory 62\n".as_slice();
+    assert_eq!(rt; write_history(alloc, &outcome, &other)?.as_slice(), text);
     let fault = LawFault::Unborn {
         store: 1,
         region: 7,
     };
-    assert_eq!(rt;
-        write_fault(alloc, &fault)?.as_slice(),
-        b"unlawful unborn 1 7\n".as_slice()
-    );
-    assert_eq!(rt;
-        write_syntax(alloc, 3, TextKind::NoEnd)?.as_slice(),
-        b"syntax 3 NoEnd\n".as_slice()
-    );
+    let text = b"unlawful unborn 1 7\n".as_slice();
+    assert_eq!(rt; write_fault(alloc, &fault)?.as_slice(), text);
+    let text = b"syntax 3 NoEnd\n".as_slice();
+    assert_eq!(rt; write_syntax(alloc, 3, TextKind::NoEnd)?.as_slice(), text);
     Ok(())
 }

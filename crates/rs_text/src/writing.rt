@@ -1,8 +1,8 @@
 //! What is written as lines.
 
-ghost use Rattle.std.specs.Prelude.{◌≡◌, ◌++◌, List, OnOk, map};
+ghost use Rattle.std.specs.Prelude.{List, map};
 ghost use Rattle.std.specs.List.{flat_map};
-ghost use Rattle.rs_field.specs.Forms.{Forms, line_text, lines_text};
+ghost use Rattle.rs_field.specs.Forms.{Appends, Forms, line_text, lines_text};
 
 use rs_key::{NoMemory, Rows};
 
@@ -13,7 +13,7 @@ pub trait Line {
 
     /// Appends the line. Where memory runs out a part of it may have been appended.
     fn put_line(&self, out: &mut Vec<u8>) -> Result<(), NoMemory>
-        ensures { OnOk result (out.new.items ≡ out.old.items ++ line_text (line self.now)) };
+        ensures { Appends result out.old out.new (line_text (line self.now)) };
 }
 
 /// What is written as lines.
@@ -23,12 +23,12 @@ pub trait Block {
 
     /// Appends the lines. Where memory runs out a part of them may have been appended.
     fn put_block(&self, out: &mut Vec<u8>) -> Result<(), NoMemory>
-        ensures { OnOk result (out.new.items ≡ out.old.items ++ lines_text (lines self.now)) };
+        ensures { Appends result out.old out.new (lines_text (lines self.now)) };
 }
 
 /// Appends the lines, one after another.
 pub fn put_lines<T: Line>(out: &mut Vec<u8>, rows: &Rows<T>) -> Result<(), NoMemory>
-    ensures { OnOk result (out.new.items ≡ out.old.items ++ lines_text (map T.line rows.now)) }
+    ensures { Appends result out.old out.new (lines_text (map T.line rows.now)) }
 {
     for row in rows.as_slice() {
         row.put_line(out)?;
@@ -38,7 +38,7 @@ pub fn put_lines<T: Line>(out: &mut Vec<u8>, rows: &Rows<T>) -> Result<(), NoMem
 
 /// Appends the lines of all, one after another.
 pub fn put_blocks<T: Block>(out: &mut Vec<u8>, rows: &Rows<T>) -> Result<(), NoMemory>
-    ensures { OnOk result (out.new.items ≡ out.old.items ++ lines_text (flat_map T.lines rows.now)) }
+    ensures { Appends result out.old out.new (lines_text (flat_map T.lines rows.now)) }
 {
     for row in rows.as_slice() {
         row.put_block(out)?;

@@ -1,4 +1,4 @@
-use Rattle.std.proofs.Common.{rules, arith, sym, ◌∙◌, ◌≡◌, length, ◌++◌, ◌∷◌, [], ap}
+use Rattle.std.proofs.Common.{rules, arith, ◌≡◌, length, ◌∷◌, [], ap}
 use Rattle.std.specs.Prelude.{true, false}
 use Rattle.std.proofs.lemmas.List.{length-append}
 use Rattle.rs_key.specs.Keys.{same_bytes}

@@ -1,4 +1,4 @@
-use Rattle.std.proofs.Common.{rules, arith, sym}
+use Rattle.std.proofs.Common.{arith}
 use Rattle.rs_fold.proofs.CodeOrder.{made_fits, makes_more, are_bytes}
 use Rattle.rs_fold.proofs.key_code.code_of.Goals as goal
 

@@ -1,5 +1,4 @@
 use Rattle.std.proofs.Common.{arith, sym, ◌∙◌, ◌≡◌}
-use Rattle.rs_fold.specs.KeyCodes.{code}
 use Rattle.rs_fold.proofs.CodeOrder.{code_below, code_above, code_tie}
 use Rattle.rs_fold.proofs.key_code.compare.Goals as goal
 

@@ -4,4 +4,4 @@ use Rattle.rs_order.specs.Runs.{seen, bare}
 use Rattle.rs_order.proofs.ends.first_waits.Given as goal
 
 abbrev pub invariant-loop-id : goal.invariant-loop-id
-invariant-loop-id l = first_of (waits l.store (bare (seen l.regions))) l.ids ≡ first_of (waits l.store (bare (seen l.regions))) (drop l.id-index l.ids)
+invariant-loop-id l = first_of (waits l.indexed (bare (seen l.regions))) l.ids ≡ first_of (waits l.indexed (bare (seen l.regions))) (drop l.id-index l.ids)

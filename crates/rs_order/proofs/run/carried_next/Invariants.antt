@@ -5,4 +5,4 @@ use Rattle.rs_order.proofs.run.carried_next.Given as goal
 
 abbrev pub invariant-loop-t : goal.invariant-loop-t
 invariant-loop-t l =
-    carried_next l.store (bare (seen l.regions)) l.ids l.id l.index ≡ carried_next l.store (bare (seen l.regions)) (drop l.t-index l.ids) l.id l.index
+    carried_next l.indexed (bare (seen l.regions)) l.ids l.id l.index ≡ carried_next l.indexed (bare (seen l.regions)) (drop l.t-index l.ids) l.id l.index

@@ -14,8 +14,8 @@ apply-requires-clause-out c = ap (λ f. f c.args.id) c.take.ensures.gone ∙ out
 
 pub returns : goal.returns
 returns c =
-    step_found c.args.store.now (seen c.args.regions.now) c.args.id c.in-Some.found.now c.in-Some-take.made (line_entry c.in-Some-next.line)
+    step_found c.args.indexed.now (seen c.args.regions.now) c.args.id c.in-Some.found.now c.in-Some-take.made (line_entry c.in-Some-next.line)
     (sym c.in-Some.ensures) (sym c.in-Some-take.ensures.value) (sym c.in-Some-next.ensures.value)
-    ∙ subst (λ (z : ByRegion). forget (step_by (verdict c.in-Some-take.made.state (line_entry c.in-Some-next.line)) c.args.store.now (bare (with_region z c.args.id c.in-Some-take.made)) c.args.id c.in-Some-take.made (line_entry c.in-Some-next.line))
+    ∙ subst (λ (z : ByRegion). forget (step_by (verdict c.in-Some-take.made.state (line_entry c.in-Some-next.line)) c.args.indexed.now (bare (with_region z c.args.id c.in-Some-take.made)) c.args.id c.in-Some-take.made (line_entry c.in-Some-next.line))
     ≡ told c.in_ok-apply.field-0 (seen c.apply.new.regions))
     c.take.ensures.gone c.in_ok-apply.ensures

@@ -1,5 +1,5 @@
 use Rattle.std.proofs.Common.{◌≡◌, ◌++◌, map, take}
-use Rattle.rs_fold.specs.Writes.{wrote}
+use Rattle.rs_order.specs.Stores.{wrote}
 use Rattle.rs_fold.proofs.writes.Writes.record.Given as goal
 
 abbrev pub invariant-loop-op : goal.invariant-loop-op

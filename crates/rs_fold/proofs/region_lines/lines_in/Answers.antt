@@ -1,0 +1,16 @@
+use Rattle.std.proofs.Common.{◌∙◌, sym, ap, ◌++◌, ◌∷◌, []}
+use Rattle.rs_order.specs.Runs.{seen}
+use Rattle.rs_fold.specs.Outcomes.{region_line}
+use Rattle.rs_fold.proofs.MadeLists.{none_more, some_more}
+use Rattle.rs_fold.proofs.region_lines.lines_in.Goals as goal
+
+pub loop-id-preserved-in_default : goal.loop-id-preserved-in_default
+loop-id-preserved-in_default c =
+    c.loop-id.invariant
+    ∙ sym (none_more (λ id. region_line c.args.store.now id (seen c.args.regions.now id)) c.args.ids.now c.loop-id.id-index c.loop-id-test.true (sym c.in_ok-line.ensures ∙ c.in_default.is))
+
+pub loop-id-preserved : goal.loop-id-preserved
+loop-id-preserved c =
+    c.in_ok-push.ensures.ok
+    ∙ (ap (λ xs. xs ++ c.in-Some.line ∷ []) c.loop-id.invariant
+    ∙ sym (some_more (λ id. region_line c.args.store.now id (seen c.args.regions.now id)) c.args.ids.now c.loop-id.id-index c.loop-id-test.true c.in-Some.line (sym c.in_ok-line.ensures ∙ c.in-Some.is)))

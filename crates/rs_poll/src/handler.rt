@@ -1,0 +1,97 @@
+ghost use Rattle.std.specs.Prelude.{◌≡◌, ℕ, OnOk, length};
+ghost use Rattle.rs_router.specs.Desks.{AreDesksOf, AllCalm, AllNamed};
+ghost use Rattle.rs_router.specs.Lists.{Rose, SameBag, StartsWith};
+ghost use Rattle.rs_router.specs.Turns.{turn_steps};
+
+use rs_key::NoMemory;
+use rs_mailcore::{Fsm, Named};
+use rs_router::{Desks, Router, Scheduler};
+use std::sync::Wait;
+
+/// Whether the machine is to run again, though it has no message.
+#[derive(Clone, Copy, Debug, PartialEq, Eq)]
+pub enum More {
+    Yes,
+    No,
+}
+
+/// What a worker does with a machine and its messages.
+///
+/// A handler has a name, and is lent machines, messages and a router of that name alone. What it has to tell others it
+/// puts into its `Out`, and `send_out` sends that once the machine is given back. It counts its calls of `advance`.
+pub trait Handler<F: Fsm, S: Scheduler>: Send + Drop {
+    /// What comes out of the machines, until it is sent.
+    type Out: Send + Drop;
+
+    /// The name of the machines and messages that it is lent.
+    ghost name: { Self → F.Name };
+
+    /// The number of mailboxes of the router that it is lent.
+    ghost count: { Self → ℕ };
+
+    /// How often `advance` was called. It stands still at its last value.
+    ghost advances: { Self → ℕ };
+
+    /// Which values of `Out` it may be lent.
+    ghost fits: { Self → Self.Out → Type 0 };
+
+    ghost one_fit: { (h : Self) (o : Self.Out) → IsProp (fits h o) };
+
+    /// Lets the machine handle a message.
+    fn handle(
+        &mut self,
+        machine: &mut F,
+        message: F::Message,
+        out: &mut Self::Out,
+    ) -> Result<(), NoMemory>
+        requires machine { F.name machine.old ≡ name self.old }
+        requires message { F.Message.name message ≡ name self.old }
+        requires out { fits self.old out.old }
+        ensures machine { F.name machine.new ≡ name self.old }
+        ensures name { name self.new ≡ name self.old }
+        ensures count { count self.new ≡ count self.old }
+        ensures out { fits self.new out.new }
+        ensures advances { advances self.new ≡ advances self.old };
+
+    /// Lets the machine go on, by so much at most.
+    fn advance(
+        &mut self,
+        machine: &mut F,
+        budget: u32,
+        out: &mut Self::Out,
+    ) -> Result<More, NoMemory>
+        requires machine { F.name machine.old ≡ name self.old }
+        requires out { fits self.old out.old }
+        ensures machine { F.name machine.new ≡ name self.old }
+        ensures name { name self.new ≡ name self.old }
+        ensures count { count self.new ≡ count self.old }
+        ensures out { fits self.new out.new }
+        ensures advances { Rose (advances self.old) (advances self.new) };
+
+    /// Sends what came out. With Ok it took, gave back and closed nothing by these desks, and popped nothing.
+    fn send_out<R: Wait>(
+        &mut self,
+        rt: &R,
+        router: &Router<F, S>,
+        desks: &mut Desks<F>,
+        pass: &mut S::Pass,
+        out: &mut Self::Out,
+    ) -> Result<(), NoMemory>
+        requires desks { AreDesksOf F.name router.now.mailboxes.items desks.old.stations.items }
+        requires pass { S.id router.now.scheduler ≡ S.pass_id pass.old }
+        requires calm { AllCalm desks.old.stations.items }
+        requires router { AllNamed F.name (name self.old) router.now.mailboxes.items }
+        requires count { length router.now.mailboxes.items ≡ count self.old }
+        requires out { fits self.old out.old }
+        ensures desks { AreDesksOf F.name router.now.mailboxes.items desks.new.stations.items }
+        ensures pass { S.id router.now.scheduler ≡ S.pass_id pass.new }
+        ensures calm { AllCalm desks.new.stations.items }
+        ensures name { name self.new ≡ name self.old }
+        ensures count { count self.new ≡ count self.old }
+        ensures out { fits self.new out.new }
+        ensures advances { advances self.new ≡ advances self.old }
+        ensures pushed { StartsWith (S.pushed pass.new) (S.pushed pass.old) }
+        ensures popped { OnOk result (SameBag (S.popped pass.old) (S.popped pass.new)) }
+        ensures empties { OnOk result (S.empties pass.new ≡ S.empties pass.old) }
+        ensures turns { OnOk result (turn_steps desks.new.stations.items ≡ turn_steps desks.old.stations.items) };
+}

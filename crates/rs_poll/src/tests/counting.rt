@@ -1,0 +1,69 @@
+ghost use Rattle.std.specs.Prelude.{◌≡◌};
+
+use crate::handler::{Handler, More};
+use crate::tests::{Note, Tally};
+use rs_key::NoMemory;
+use rs_router::{Desks, Router, Scheduler};
+use std::sync::Wait;
+use std::sync::atomic::{AtomicU64, Ordering};
+
+/// Adds each message to its machine, and counts all messages in one number that the workers share.
+#[derive(Drop)]
+pub struct Counting<'a> {
+    pub seen: &'a AtomicU64,
+    pub mailboxes: u32,
+    pub advances: u64,
+    pub again: bool,
+}
+
+impl<'a, S: Scheduler> Handler<Tally, S> for Counting<'a> {
+    ghost use mathlib.Core.HLevel.{Unit-prop};
+
+    type Out = ();
+
+    ghost name = { λ h. 7 };
+
+    ghost count = { λ h. h.mailboxes };
+
+    ghost advances = { λ h. h.advances };
+
+    ghost fits = { λ h o. Unit {0} };
+
+    ghost one_fit = { λ h o. Unit-prop };
+
+    fn handle(
+        &mut self,
+        machine: &mut Tally,
+        message: Note,
+        _out: &mut (),
+    ) -> Result<(), NoMemory> {
+        machine.messages = machine.messages.saturating_add(1);
+        machine.total = machine.total.saturating_add(message.number);
+        self.seen.fetch_add(1, Ordering::SeqCst);
+        Ok(())
+    }
+
+    fn advance(
+        &mut self,
+        _machine: &mut Tally,
+        _budget: u32,
+        _out: &mut (),
+    ) -> Result<More, NoMemory> {
+        self.advances = self.advances.saturating_add(1);
+        if self.again {
+            return Ok(More::Yes);
+        }
+        Ok(More::No)
+    }
+
+    fn send_out<R: Wait>(
+        &mut self,
+        _rt: &R,
+        _router: &Router<Tally, S>,
+        _desks: &mut Desks<Tally>,
+        _pass: &mut S::Pass,
+        _out: &mut (),
+    ) -> Result<(), NoMemory> {
+        Ok(())
+    }
+}

@@ -1,0 +1,9 @@
+pub mod Lists
+pub mod Routes
+pub mod Props
+pub mod Desks
+pub mod Turns
+pub mod Lines
+pub mod Ids
+pub mod Passes
+pub mod Lending
