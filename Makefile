@@ -11,7 +11,7 @@ all: build
 
 # Proves the program's crates and builds it.
 build:
-	cd crates/raftreplay && rt run </dev/null >/dev/null
+	cd crates/raftreplay && rt run -- fold < ../../examples/one-region.log >/dev/null
 
 # What a change must pass.
 test:
