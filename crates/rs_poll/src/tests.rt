@@ -3,6 +3,7 @@ ghost use Rattle.rs_router.specs.Desks.{AreDesksOf, AllCalm};
 ghost use Rattle.rs_router.specs.Passes.{IsNewPass};
 
 mod counting;
+mod refusing;
 mod turns;
 mod workers;
 

@@ -1,4 +1,6 @@
 -- Fields both ways: what is read of a field is spelled so, and what is spelled so is read.
+-- `X_takes` and `X_spelled`: the field that the reader X took is spelled as what it gave, and that keeps its form.
+-- `X_again`: a field that is spelled so is read by X as that.
 use Rattle.std.specs.Fmt as fmt
 use Rattle.std.proofs.Common.{◌≡◌, ℕ, ◌<◌, Bool, true, false, cond, eqb, ltb, List, [], ◌∷◌, Result, Ok, Err, refl, sym, ap, subst, ◌∙◌, arith, suc, ◌≤◌, leb, length, codes, Option, Some, None, ◌&&◌, get_or}
 use Rattle.std.specs.Fmt.{decimal}

@@ -1,4 +1,5 @@
 -- A body that is read is spelled so.
+-- `X_spelled`: the fields that the reader X took are spelled as what it gave, and that keeps its limits.
 use Rattle.rs_entry.specs.declared.entry.CarriedBody.TheVariants as carried
 use Rattle.rs_entry.specs.declared.entry.Body.TheVariants as body
 use Rattle.std.proofs.Common.{◌≡◌, ℕ, zero, suc, ◌+◌, ◌<◌, ◌≤◌, Bool, true, false, ◌||◌, cond, eqb, ltb, leb, List, [], ◌∷◌, ◌++◌, length, map, codes, Ok, Err, refl, ap, subst, inl, inr, ◌⊎◌, arith}

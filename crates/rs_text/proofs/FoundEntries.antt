@@ -1,4 +1,5 @@
 -- Entry and carry lines that are read: the progress stands for one more line.
+-- `X_found`: a line of the kind X is a step from a good progress to a good one.
 use Rattle.rs_entry.specs.declared.entry.Body.TheVariants as body
 use Rattle.std.proofs.Common.{◌≡◌, ℕ, zero, suc, ◌+◌, ◌-◌, ◌<◌, ◌≤◌, Bool, true, false, ◌||◌, cond, eqb, leb, List, [], ◌∷◌, ◌++◌, length, map, codes, Option, Some, None, Ok, refl, sym, ap, subst, ◌∙◌, append_assoc, inl, inr, arith}
 use Rattle.std.specs.List.{flat_map, sum_by}

@@ -1,4 +1,5 @@
 -- What a line that was read spells, line by line.
+-- `X_read`: what a line of the kind X that went well shows, as a record.
 use Rattle.std.specs.Fmt as fmt
 use Rattle.std.proofs.Common.{◌≡◌, ℕ, ◌+◌, ◌<◌, Bool, true, false, not, ◌&&◌, cond, eqb, ltb, List, [], ◌∷◌, length, map, get_or, codes, Option, Result, Ok, Err, refl, sym, ap, subst, ◌⊎◌, arith, ◌∙◌}
 use Rattle.std.specs.Prelude.{IfSome}

@@ -1,4 +1,5 @@
 -- A text that is read belongs to the input that it gives.
+-- First the other kinds of lines, then any line, then whole texts by the list of their parts.
 use Rattle.std.specs.Fmt as fmt
 use Rattle.std.proofs.Common.{◌≡◌, ℕ, zero, suc, ◌+◌, ◌<◌, ◌≤◌, Bool, true, false, cond, eqb, List, [], ◌∷◌, ◌++◌, length, map, codes, Option, Some, None, Result, Ok, Err, refl, sym, ap, subst, ◌∙◌, append_assoc, inl, inr, ◌⊎◌, arith}
 use Rattle.std.specs.List.{flat_map, AllByRecursion}

@@ -1,4 +1,5 @@
 -- Bodies that are spelled so are read.
+-- `X_again`: fields that are spelled so are read by X as that, where the totals have room.
 use Rattle.std.specs.Fmt as fmt
 use Rattle.rs_entry.specs.declared.entry.CarriedBody.TheVariants as carried
 use Rattle.rs_entry.specs.declared.entry.Body.TheVariants as body

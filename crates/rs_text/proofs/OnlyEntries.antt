@@ -1,4 +1,6 @@
 -- The lines of a log's entries, however they are spelled, lead from one progress to the next.
+-- `X_step`: what one line does, however it is spelled. `X_leads`: what the lines of one entry do, one after the other.
+-- The end states are variables that are equal to what is added up, so that no sum has to be moved.
 use Rattle.std.specs.Fmt as fmt
 use Rattle.rs_entry.specs.declared.entry.CarriedBody.TheVariants as carried
 use Rattle.rs_entry.specs.declared.entry.Body.TheVariants as body

@@ -1,4 +1,5 @@
 -- A text that belongs to an input is read as it.
+-- `X_lead`: the lines of some logs, regions or stores lead from one progress to the next.
 use Rattle.std.specs.Fmt as fmt
 use Rattle.std.proofs.Common.{◌≡◌, ℕ, ◌+◌, ◌<◌, ◌≤◌, Bool, true, false, cond, eqb, List, [], ◌∷◌, ◌++◌, length, map, codes, Some, None, Ok, refl, sym, ap, ◌∙◌, append_assoc, inl, inr, ◌⊎◌, arith, Result, Err}
 use Rattle.std.specs.List.{flat_map, sum_by, AllByRecursion}

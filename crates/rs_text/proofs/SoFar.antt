@@ -1,4 +1,5 @@
 -- The lines that a progress stands for, and what holds of it.
+-- `so_far` are the lines that were read; `Good` says that what they gave keeps all rules and totals; `Steps` is one line more.
 use Rattle.rs_entry.specs.declared.entry.CarriedBody.TheVariants as carried
 use Rattle.std.proofs.Common.{◌≡◌, ℕ, zero, suc, ◌+◌, ◌<◌, ◌≤◌, false, List, [], ◌∷◌, ◌++◌, length, map, codes, Option, Some, None, refl, append_assoc, ◌⊎◌, arith}
 use Rattle.std.specs.List.{flat_map, sum_by, AllByRecursion}
