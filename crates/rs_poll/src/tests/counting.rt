@@ -13,6 +13,8 @@ pub struct Counting<'a> {
     pub seen: &'a AtomicU64,
     pub mailboxes: u32,
     pub advances: u64,
+    /// How many messages the machine had handled when it last advanced.
+    pub before_advance: u64,
     pub again: bool,
 }
 
@@ -45,11 +47,12 @@ impl<'a, S: Scheduler> Handler<Tally, S> for Counting<'a> {
 
     fn advance(
         &mut self,
-        _machine: &mut Tally,
+        machine: &mut Tally,
         _budget: u32,
         _out: &mut (),
     ) -> Result<More, NoMemory> {
         self.advances = self.advances.saturating_add(1);
+        self.before_advance = machine.messages;
         if self.again {
             return Ok(More::Yes);
         }

@@ -130,6 +130,7 @@ fn a_machine_whose_ticket_is_refused_is_closed(rt: HostRuntime) -> Result<(), Fa
         seen: &seen,
         mailboxes: 1,
         advances: 0,
+        before_advance: 0,
         again: true,
     };
     let mut poller = Poller::new(&router, desks, pass, handler, (), 0, 2);

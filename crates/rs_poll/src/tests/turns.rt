@@ -34,6 +34,7 @@ fn a_turn_handles_a_batch_and_then_there_is_nothing(rt: HostRuntime) -> Result<(
         seen: &seen,
         mailboxes: 1,
         advances: 0,
+        before_advance: 0,
         again: false,
     };
     let mut poller = Poller::new(&router, desks, pass, handler, (), 0, 2);
@@ -41,7 +42,7 @@ fn a_turn_handles_a_batch_and_then_there_is_nothing(rt: HostRuntime) -> Result<(
     assert!(rt; tell(&rt, &router, &mut my_desks, &mut mine, 0, 4).is_ok());
     assert!(rt; tell(&rt, &router, &mut my_desks, &mut mine, 0, 5).is_ok());
     assert!(rt; matches!(poller.poll_once(&rt, &OpenGate), Ok(Worked::Turned(0))));
-    assert!(rt; poller.handler.advances == 1);
+    assert!(rt; poller.handler.advances == 1 && poller.handler.before_advance == 2);
     assert!(rt; matches!(poller.poll_once(&rt, &OpenGate), Ok(Worked::Turned(0))));
     assert!(rt; matches!(poller.poll_once(&rt, &OpenGate), Ok(Worked::Nothing)));
     assert!(rt; *poller.out() == ());

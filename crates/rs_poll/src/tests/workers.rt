@@ -61,6 +61,7 @@ fn workers<'r, 'a>(
             seen,
             mailboxes: router.count(),
             advances: 0,
+            before_advance: 0,
             again: false,
         };
         list.push(Poller::new(router, one, pass, handler, (), worker, 3))?;
