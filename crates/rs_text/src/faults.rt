@@ -1,6 +1,6 @@
 //! The texts of faults.
 
-ghost use Rattle.std.specs.Prelude.{◌≡◌, ◌++◌, ◌∷◌, [], IfOk, codes};
+ghost use Rattle.std.specs.Prelude.{◌≡◌, ◌++◌, ◌∷◌, [], IfOk, codes, length};
 ghost use Rattle.rs_field.specs.Forms.{Appends, more_text, fields_text, line_text, lines_text};
 ghost use Rattle.rs_text.specs.Outcomes.{mode_forms};
 ghost use Rattle.rs_text.specs.FaultTexts.{kind_form, syntax_text, unlawful, statement_forms, range_forms, fault_lines, fault_text};
@@ -114,6 +114,47 @@ fn put_pair<T: Line>(
     other.put_line(out)
 }
 
+/// Appends the line of a fault that has one.
+fn put_one_line(out: &mut Vec<u8>, fault: &LawFault) -> Result<(), NoMemory>
+    requires { length (fault_lines fault.now) ≡ 1 }
+    ensures { Appends result out.old out.new (lines_text (fault_lines fault.now)) }
+{
+    match fault {
+        LawFault::Reused {
+            store,
+            region,
+            index,
+            id,
+        } => { put_alone(out, "reused", &[*store, *region, *index, *id]) }
+        LawFault::NotPrepared {
+            store,
+            region,
+            index,
+            source,
+            commit,
+        } => {
+            let numbers = [*store, *region, *index, *source, *commit];
+            put_alone(out, "notprepared", &numbers)
+        }
+        LawFault::BadRollback {
+            store,
+            region,
+            index,
+            commit,
+            mode,
+        } => { put_bad_rollback(out, &[*store, *region, *index, *commit], mode) }
+        LawFault::Waits {
+            store,
+            region,
+            index,
+            source,
+            commit,
+        } => { put_alone(out, "waits", &[*store, *region, *index, *source, *commit]) }
+        LawFault::Unborn { store, region } => put_alone(out, "unborn", &[*store, *region]),
+        _ => unreachable!(),
+    }
+}
+
 /// Appends the lines of a fault.
 fn put_fault(out: &mut Vec<u8>, fault: &LawFault) -> Result<(), NoMemory>
     ensures { Appends result out.old out.new (lines_text (fault_lines fault.now)) }
@@ -129,25 +170,6 @@ fn put_fault(out: &mut Vec<u8>, fault: &LawFault) -> Result<(), NoMemory>
         } => put_pair(out, "differ", &[*first, *second, *region, *index], was, is),
         LawFault::Overlap { one, other } => {
             put_pair(out, "overlap", &[one.region, other.region], one, other)
-        }
-        LawFault::Reused {
-            store,
-            region,
-            index,
-            id,
-        } => { put_alone(out, "reused", &[*store, *region, *index, *id]) }
-        LawFault::NotPrepared {
-            store,
-            region,
-            index,
-            source,
-            commit,
-        } => {
-            put_alone(
-                out,
-                "notprepared",
-                &[*store, *region, *index, *source, *commit],
-            )
         }
         LawFault::NotNext {
             store,
@@ -169,21 +191,7 @@ fn put_fault(out: &mut Vec<u8>, fault: &LawFault) -> Result<(), NoMemory>
             };
             put_pair(out, "notnext", &numbers, &target, &source)
         }
-        LawFault::BadRollback {
-            store,
-            region,
-            index,
-            commit,
-            mode,
-        } => { put_bad_rollback(out, &[*store, *region, *index, *commit], mode) }
-        LawFault::Waits {
-            store,
-            region,
-            index,
-            source,
-            commit,
-        } => { put_alone(out, "waits", &[*store, *region, *index, *source, *commit]) }
-        LawFault::Unborn { store, region } => put_alone(out, "unborn", &[*store, *region]),
+        _ => put_one_line(out, fault),
     }
 }
 
