@@ -40,7 +40,7 @@ pub carried_for : (store : Store) (g : Applied) (ids standing : List ℕ) (f : B
 carried_for store g ids standing f source index e h =
     ap (λ (xs : List ℕ). carried_next store g xs source index) (e ∙ ap (λ (k : BySource). k source) h) ∙ carried_by store g ids source index
 
-take_one : (xs : List ℕ) (i : ℕ) → i < length xs → take (i + 1) xs ≡ take i xs ++ get_or xs i 0 ∷ []
+pub take_one : (xs : List ℕ) (i : ℕ) → i < length xs → take (i + 1) xs ≡ take i xs ++ get_or xs i 0 ∷ []
 take_one [] i h = absurd (omega arith)
 take_one (x ∷ xs) zero h = refl
 take_one (x ∷ xs) (suc i) h =

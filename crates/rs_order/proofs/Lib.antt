@@ -5,12 +5,14 @@ pub mod EndLaws
 pub mod Folds
 pub mod FormLaws
 pub mod Frames
+pub mod JoinerLaws
 pub mod LogPlaces
 pub mod Loops
 pub mod Near
 pub mod Orders
 pub mod PlaceSteps
 pub mod Rising
+pub mod RollbackLaws
 pub mod Updates
 pub mod Verdicts
 pub mod WalkLaws

@@ -25,7 +25,7 @@ carried_same store g (t ∷ ts) id index = ap (first_some (carried_at id index (
 pub next_same : (store : Store) (g : Applied) (id : ℕ) (r : Made) → next store g id r ≡ next store (bare g.region) id r
 next_same store g id r = ap (first_some _) (carried_same store g (ids_of store) id (r.applied + 1))
 
-ready_same : (store : Store) (g : Applied) (id : ℕ) → is_ready store g id ≡ is_ready store (bare g.region) id
+pub ready_same : (store : Store) (g : Applied) (id : ℕ) → is_ready store g id ≡ is_ready store (bare g.region) id
 ready_same store g id = go (g.region id) where
   go : (o : Option Made) → ready_in store g id o ≡ ready_in store (bare g.region) id o
   go None = refl

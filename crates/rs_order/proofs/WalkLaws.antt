@@ -1,6 +1,6 @@
 -- What a step adds to what was written and replied before.
-use Rattle.std.proofs.Common.{◌≡◌, ℕ, ◌+◌, suc, zero, arith, refl, sym, ap, ◌∙◌, List, [], ◌++◌, append-nil}
-use Rattle.std.specs.Prelude.{Bool, true, false, Option, Some, None, ◌&&◌, if◌then◌else◌}
+use Rattle.std.proofs.Common.{Result, Ok, Err, ◌≡◌, ℕ, ◌+◌, suc, zero, arith, refl, sym, ap, ◌∙◌, subst, List, [], ◌++◌, append-nil}
+use Rattle.std.specs.Prelude.{Bool, true, false, Option, Some, None, ◌&&◌, if◌then◌else◌, IfOk}
 use Rattle.rs_key.specs.Ranges.{is_next_to}
 use Rattle.rs_entry.specs.declared.entry.Body.{Body}
 use Rattle.rs_entry.specs.declared.entry.Body.TheVariants as body
@@ -9,12 +9,18 @@ use Rattle.rs_entry.specs.declared.input.Store.{Store}
 use Rattle.rs_region.specs.Verdicts.{verdict}
 use Rattle.rs_region.specs.declared.verdict.Verdict.{Verdict}
 use Rattle.rs_region.specs.declared.verdict.Verdict.TheVariants as verdicts
+use Rattle.rs_key.specs.declared.no_memory.NoMemory.{NoMemory}
 use Rattle.rs_order.specs.declared.regions.Made.{Made}
+use Rattle.rs_order.specs.declared.walk.Advance.{Advance}
+use Rattle.rs_order.specs.declared.walk.Advance.TheVariants as advances
 use Rattle.rs_order.specs.declared.fault.StepFault.{StepFault}
 use Rattle.rs_order.specs.Stores.{ByRegion, Applied, Stepped, Went, Broke, Wrote, Replied, own, is_paused, is_prepared_for, next, accept, commit_with, step_by, step_with, step_in, step, least_ready, advance_by, advance, then_advance, after}
 use Rattle.rs_order.specs.declared.effect.Effect.{Effect}
 use Rattle.rs_order.specs.Runs.{Moved, Failed, bare, forget}
-use Rattle.rs_order.specs.Walks.{gained, Tells}
+use Rattle.rs_order.specs.declared.carriers.Carriers.{Carriers}
+use Rattle.rs_order.specs.declared.places.PlaceMap.{PlaceMap}
+use Rattle.rs_order.specs.declared.regions.Regions.{Regions}
+use Rattle.rs_order.specs.Walks.{Goes, IsWalk, Leads, Tells, gained}
 use Rattle.rs_order.proofs.Orders.{next_same, least_same}
 
 -- a step, on top of these writes and replies
@@ -63,7 +69,7 @@ module _ (store : Store) (g : Applied) where
   with_onto id r None = nothing_onto
   with_onto id r (Some e) = by_onto (verdict r.state e) id r e
 
-  step_onto : (id : ℕ) → step store g id ≡ onto g.writes g.replies (step store (bare g.region) id)
+  pub step_onto : (id : ℕ) → step store g id ≡ onto g.writes g.replies (step store (bare g.region) id)
   step_onto id = go (g.region id) where
     go : (o : Option Made) → step_in store g id o ≡ onto g.writes g.replies (step_in store (bare g.region) id o)
     go None = nothing_onto
@@ -105,3 +111,17 @@ broke_whole (Broke fault) x is = let e : fault ≡ x = cc in ap Broke e
 -- the step of the least region that is ready is the advance
 pub advance_is : (store : Store) (f g : ByRegion) (id : ℕ) → Some id ≡ least_ready store (bare f) → g ≡ f → advance store (bare f) ≡ step store (bare g) id
 advance_is store f g id least same = ap (advance_by store (bare f)) (sym least) ∙ ap (λ k. step store (bare k) id) (sym same)
+
+-- a walk over a store that is known under another name
+pub walk_over : (s t : Store) (awaited : PlaceMap) (regions : Regions) (standing : Carriers) (cursor steps : ℕ) → s ≡ t
+    → IsWalk (record { indexed = t; awaited = awaited; regions = regions; standing = standing; cursor = cursor; steps = steps })
+    → IsWalk (record { indexed = s; awaited = awaited; regions = regions; standing = standing; cursor = cursor; steps = steps })
+walk_over s t awaited regions standing cursor steps same walk =
+    subst (λ (x : Store). IsWalk (record { indexed = x; awaited = awaited; regions = regions; standing = standing; cursor = cursor; steps = steps })) (sym same) walk
+
+-- where the advance is this step, it leads where the step goes
+pub goes_leads : (store : Store) (old new : ByRegion) (s : Stepped) → advance store (bare old) ≡ s → (r : Result Advance NoMemory) → IfOk r (λ a. Goes s new a) → IfOk r (λ a. Leads store old new a)
+goes_leads store old new s is (Ok (advances.Took t)) goes = is ∙ goes
+goes_leads store old new s is (Ok advances.Rests) goes = absurd goes
+goes_leads store old new s is (Ok (advances.Broke fault)) goes = is ∙ goes
+goes_leads store old new s is (Err e) goes = tt

@@ -3,6 +3,8 @@ use Rattle.std.specs.Prelude.{◌≡◌, ℕ, ◌<◌, List, map, length, slice_
 use Rattle.rs_entry.specs.declared.input.Log.{Log}
 use Rattle.rs_entry.specs.declared.input.Store.{Store}
 use Rattle.rs_order.specs.Stores.{ids_of}
+use Rattle.rs_order.specs.Joiners.{joiners_of}
+use Rattle.rs_order.specs.Rollbacks.{Answers, AreTrue}
 
 -- each number is above all before it
 abbrev pub AreRising : List ℕ → Type 0
@@ -15,7 +17,10 @@ regions_of logs = map (λ log. log.region) logs
 abbrev pub log_ids : Store → List ℕ
 log_ids store = regions_of store.logs
 
--- the ids that the store may make; the regions of its logs rise
-pub record IsIndexed (store : Store) (ids : List ℕ) : Type 0 where
+-- the ids that the store may make, and those that may join others; the regions of its logs rise; the answers about its
+-- rollbacks are true
+pub record IsIndexed (store : Store) (ids joiners : List ℕ) (found : Answers) : Type 0 where
   pub all_ids : ids ≡ ids_of store
+  pub all_joiners : joiners ≡ joiners_of store
   pub rising : AreRising (log_ids store)
+  pub answered : AreTrue store found

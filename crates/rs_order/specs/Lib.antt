@@ -4,7 +4,9 @@ pub mod Cursor
 pub mod Ends
 pub mod Formed
 pub mod Indexes
+pub mod Joiners
 pub mod Places
+pub mod Rollbacks
 pub mod Runs
 pub mod Stores
 pub mod Walks

@@ -79,8 +79,13 @@ Keeps old new (advances.Took t) = IsOneOn old new
 Keeps old new advances.Rests = new ≡ old
 Keeps old new (advances.Broke fault) = Unit {0}
 
+-- where a step leads
+abbrev pub Goes : Stepped → ByRegion → Advance → Type 0
+Goes step new (advances.Took t) = step ≡ Went (gained new t)
+Goes step new advances.Rests = ⊥
+Goes step new (advances.Broke fault) = step ≡ Broke fault
+
 -- where an advance over these regions leads
 abbrev pub Leads : Store → ByRegion → ByRegion → Advance → Type 0
-Leads store old new (advances.Took t) = advance store (bare old) ≡ Went (gained new t)
 Leads store old new advances.Rests = least_ready store (bare old) ≡ None
-Leads store old new (advances.Broke fault) = advance store (bare old) ≡ Broke fault
+Leads store old new a = Goes (advance store (bare old)) new a

@@ -25,7 +25,7 @@ impl Carriers {
     ) -> Result<Carriers, NoMemory>
         ensures { IfOk result (λ c. carriers c ≡ standing_for indexed.now (bare (seen regions.now)) (ids_of indexed.now)) }
     {
-        Ok(all_of(alloc, indexed, regions, indexed.ids())?)
+        Ok(all_of(alloc, indexed, regions, indexed.joiners())?)
     }
 
     fn new(alloc: Global) -> Carriers

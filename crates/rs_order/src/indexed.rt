@@ -3,31 +3,39 @@ ghost use Rattle.std.specs.List.{find};
 ghost use Rattle.std.specs.Option.{option_copied};
 ghost use Rattle.rs_order.specs.Stores.{own, ids_of};
 ghost use Rattle.rs_order.specs.Indexes.{AreRising, regions_of, log_ids};
+ghost use Rattle.rs_order.specs.Joiners.{joiners_of};
+ghost use Rattle.rs_order.specs.Rollbacks.{has_rollback};
 
 use crate::ids::ids_of;
+use crate::joiners::joiners_of;
+use crate::rollbacks::{Answer, Rollbacks, has_rollback, is_to};
 use rs_entry::{Entry, Log, Store};
-use rs_key::NoMemory;
+use rs_key::{Epoch, NoMemory};
 use std::alloc::Global;
 use std::marker::Model;
 
-/// A store that is run, with the regions that it may make, and with its logs at hand by region.
+/// A store that is run, with the regions that it may make, with its logs at hand by region, and with the rollbacks
+/// that were looked for in them.
 ///
 /// Contracts see the store.
 #[derive(Drop)]
 pub struct IndexedStore<'a> {
     store: &'a Store,
     ids: Vec<u64>,
+    joiners: Vec<u64>,
+    rollbacks: Rollbacks,
 }
 
 impl<'a> Model for IndexedStore<'a> {
     ghost use Rattle.rs_entry.specs.declared.input.Store.{Store};
     ghost use Rattle.rs_order.specs.Indexes.{IsIndexed};
+    ghost use Rattle.rs_order.specs.Rollbacks.{answers};
 
     ghost Value = { Store };
 
     ghost view = { λ s. s.store.now };
 
-    ghost invariant = { λ s. IsIndexed s.store.now s.ids.items };
+    ghost invariant = { λ s. IsIndexed s.store.now s.ids.items s.joiners.items (answers s.rollbacks) };
 }
 
 impl<'a> IndexedStore<'a> {
@@ -36,7 +44,13 @@ impl<'a> IndexedStore<'a> {
         ensures { IfOk result (λ indexed. indexed ≡ store.now) }
     {
         let ids = ids_of(alloc, store)?;
-        Ok(IndexedStore { store, ids })
+        let joiners = joiners_of(alloc, store, ids.as_slice())?;
+        Ok(IndexedStore {
+            store,
+            ids,
+            joiners,
+            rollbacks: Rollbacks::new(alloc),
+        })
     }
 
     pub fn store(&self) -> &'a Store
@@ -52,6 +66,13 @@ impl<'a> IndexedStore<'a> {
         self.ids.as_slice()
     }
 
+    /// Of these, the regions whose own log has a commit, by id: no other can stand before a merge.
+    pub(crate) fn joiners(&self) -> &[u64]
+        ensures { result.now ≡ joiners_of self.now }
+    {
+        self.joiners.as_slice()
+    }
+
     /// The regions that the store may make, by id, when nothing else is needed any more.
     pub fn into_ids(self) -> Vec<u64>
         ensures { result.items ≡ ids_of self.entry }
@@ -64,6 +85,34 @@ impl<'a> IndexedStore<'a> {
         ensures { result.now ≡ own self.now region }
     {
         own(self.store, region)
+    }
+
+    /// Whether the region's own log has a rollback past the commit that fits the epoch.
+    pub(crate) fn has_rollback(&self, region: u64, commit: u64, epoch: &Epoch) -> bool
+        ensures { result ≡ has_rollback (own self.now region) commit epoch.now }
+    {
+        let Some(answer) = self.rollbacks.get(region) else {
+            return has_rollback(self.own(region), commit, epoch);
+        };
+        if !is_to(answer, commit, epoch) {
+            return has_rollback(self.own(region), commit, epoch);
+        }
+        answer.found
+    }
+
+    /// Looks for such a rollback, and keeps what was found.
+    pub(crate) fn look(&mut self, region: u64, commit: u64, epoch: &Epoch) -> Result<(), NoMemory>
+        ensures { self.new ≡ self.old }
+    {
+        let found = self.has_rollback(region, commit, epoch);
+        self.rollbacks.put(
+            region,
+            Answer {
+                commit,
+                epoch: *epoch,
+                found,
+            },
+        )
     }
 }
 

@@ -1,8 +1,8 @@
-ghost use Rattle.std.specs.Prelude.{◌≡◌, ℕ, ◌+◌, ◌<◌, ◌≤◌, ◌^◌, ◌==◌, Option, Some, None, IfOk, IfSome, OnOk, slice_get, map, true, drop, ◌-◌};
-ghost use Rattle.std.specs.List.{find, list_any};
+ghost use Rattle.std.specs.Prelude.{◌≡◌, ℕ, ◌+◌, ◌<◌, ◌≤◌, ◌^◌, ◌==◌, Option, Some, None, IfOk, IfSome, OnOk, slice_get, map, true};
+ghost use Rattle.std.specs.List.{find};
 ghost use Rattle.std.specs.Option.{option_copied, option_map};
 ghost use Rattle.rs_entry.specs.Entries.{entry_of};
-ghost use Rattle.rs_order.specs.Stores.{own, ids_of, is_fitting, is_paused, goes_on, merge_of, merge_in, own_next, stands, entry_at, carried_at, carried_next, next, has_applied, is_ready, least_ready, step, is_accept};
+ghost use Rattle.rs_order.specs.Stores.{own, ids_of, is_paused, goes_on, merge_of, merge_in, own_next, stands, entry_at, carried_at, carried_next, next, has_applied, is_ready, least_ready, step, is_accept};
 ghost use Rattle.rs_order.specs.Runs.{seen, bare, forget, told, next_in, IsLow, IsAllLow, IsFormed, IsFormedStore, line_entry};
 ghost use Rattle.rs_order.specs.Carriers.{carriers, standing_for};
 
@@ -10,7 +10,7 @@ use crate::carriers::Carriers;
 use crate::indexed::IndexedStore;
 use crate::regions::{Made, Regions};
 use rs_entry::{Body, Carried, Entry, Mode};
-use rs_key::{Epoch, Kind, Rows};
+use rs_key::{NoMemory, Rows};
 use rs_region::{RegionState, Verdict};
 use std::marker::Model;
 
@@ -37,55 +37,34 @@ impl<'a> Model for Standing<'a> {
     ghost view = { λ s. record { source = s.source; commit = s.commit; carried = s.carried.now } };
 }
 
-fn is_fitting(commit: u64, epoch: &Epoch, entry: &Entry) -> bool
-    ensures { result ≡ is_fitting commit epoch.now entry.now }
-{
-    match entry.body {
-        Body::Rollback { commit: own } => {
-            commit < entry.index && (own == commit && epoch.matches(Kind::Rollback, &entry.epoch))
-        }
-        _ => false,
-    }
-}
-
-fn has_rollback(log: &[Entry], commit: u64, epoch: &Epoch) -> bool
-    ensures { result ≡ list_any (is_fitting commit epoch.now) log.now }
-{
-    for entry in log {
-        if is_fitting(commit, epoch, entry) {
-            return true;
-        }
-    }
-    false
-}
-
-/// The entries of the log past the commit.
-fn past(log: &[Entry], commit: u64) -> &[Entry]
-    ensures { result.now ≡ drop (commit - 5) log.now }
-{
-    let start = commit.saturating_sub(5) as usize;
-    if start < log.len() {
-        let (_, rest) = log.split_at(start);
-        return rest;
-    }
-    &[]
-}
-
-pub fn is_paused(log: &[Entry], state: &RegionState) -> bool
-    ensures { result ≡ is_paused log.now state.now }
+pub fn is_paused(indexed: &IndexedStore<'_>, id: u64, state: &RegionState) -> bool
+    ensures { result ≡ is_paused (own indexed.now id) state.now }
 {
     match state.mode {
-        Mode::Merging { commit, .. } => !has_rollback(past(log, commit), commit, &state.epoch),
+        Mode::Merging { commit, .. } => !indexed.has_rollback(id, commit, &state.epoch),
         _ => false,
     }
 }
 
-fn goes_on(log: &[Entry], state: &RegionState) -> bool
-    ensures { result ≡ goes_on log.now state.now }
+fn goes_on(indexed: &IndexedStore<'_>, id: u64, state: &RegionState) -> bool
+    ensures { result ≡ goes_on (own indexed.now id) state.now }
 {
     match state.mode {
         Mode::Merged { .. } | Mode::Removed => false,
-        _ => !is_paused(log, state),
+        _ => !is_paused(indexed, id, state),
+    }
+}
+
+/// Looks for the rollback of the region's merge, where it is merging, so that it needn't be looked for again.
+pub fn look(indexed: &mut IndexedStore<'_>, regions: &Regions, id: u64) -> Result<(), NoMemory>
+    ensures { indexed.new ≡ indexed.old }
+{
+    let Some(made) = regions.get(id) else {
+        return Ok(());
+    };
+    match made.state.mode {
+        Mode::Merging { commit, .. } => indexed.look(id, commit, &made.state.epoch),
+        _ => Ok(()),
     }
 }
 
@@ -142,11 +121,10 @@ pub fn stands<'a>(indexed: &IndexedStore<'a>, regions: &Regions, id: u64) -> Opt
     let Some(made) = regions.get(id) else {
         return None;
     };
-    let log = indexed.own(id);
-    if !goes_on(log, &made.state) {
+    if !goes_on(indexed, id, &made.state) {
         return None;
     }
-    match own_next(log, made.applied) {
+    match own_next(indexed.own(id), made.applied) {
         None => None,
         Some(entry) => merge_of(&made.state, entry),
     }
@@ -252,7 +230,7 @@ pub fn is_ready(indexed: &IndexedStore<'_>, standing: &Carriers, regions: &Regio
     let Some(made) = regions.get(id) else {
         return false;
     };
-    if !goes_on(indexed.own(id), &made.state) {
+    if !goes_on(indexed, id, &made.state) {
         return false;
     }
     match next(indexed, standing, regions, id, made) {

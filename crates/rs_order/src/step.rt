@@ -282,7 +282,7 @@ fn is_removal_of(store: u64, change: &Change) -> bool
 fn may_join(indexed: &IndexedStore<'_>, id: u64, source: u64, commit: u64, taken: &Made) -> bool
     ensures { result ≡ (is_prepared_for id commit taken.now.state.mode && is_paused (own indexed.now source) taken.now.state) }
 {
-    is_prepared_for(id, commit, taken.state.mode) && is_paused(indexed.own(source), &taken.state)
+    is_prepared_for(id, commit, taken.state.mode) && is_paused(indexed, source, &taken.state)
 }
 
 fn commit(

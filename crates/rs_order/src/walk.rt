@@ -3,7 +3,7 @@ ghost use Rattle.std.specs.Option.{option_map};
 ghost use Rattle.rs_order.specs.Stores.{opening, ids_of, entries_in, is_ready, least_ready, step};
 ghost use Rattle.rs_order.specs.Runs.{seen, bare, forget, told, next_in, line_entry, IsFormedStore};
 ghost use Rattle.rs_order.specs.Formed.{IsFormedOne};
-ghost use Rattle.rs_order.specs.Walks.{IsWalk, Keeps, Leads, store_of, made_by, taken};
+ghost use Rattle.rs_order.specs.Walks.{IsWalk, Goes, Keeps, Leads, store_of, made_by, taken};
 
 use crate::awaits::awaited;
 use crate::carriers::Carriers;
@@ -15,7 +15,7 @@ use crate::indexed::IndexedStore;
 use crate::order::opening;
 use crate::places::PlaceMap;
 use crate::regions::Regions;
-use crate::run::{Line, next, stands};
+use crate::run::{Line, is_ready, look, next, stands};
 use crate::step::step;
 use rs_entry::Store;
 use rs_key::NoMemory;
@@ -139,6 +139,7 @@ impl<'a> Walk<'a> {
             None => {}
             Some(fault) => return Ok(Some(fault)),
         }
+        look(&mut self.indexed, &self.regions, id)?;
         let lone = stands(&self.indexed, &self.regions, id).is_none();
         if may_stay(calm, lone) {
             return Ok(None);
@@ -165,6 +166,26 @@ impl<'a> Walk<'a> {
         let Some(id) = self.least_ready() else {
             return Ok(Advance::Rests);
         };
+        self.take(alloc, id)
+    }
+
+    /// Whether the region is ready.
+    pub fn is_ready(&self, id: u64) -> bool
+        requires walk { IsWalk self.now }
+        requires few { self.now.steps < 2 ^ 50 }
+        ensures { result ≡ is_ready (store_of self.now) (bare (made_by self.now)) id }
+    {
+        is_ready(&self.indexed, &self.standing, &self.regions, id)
+    }
+
+    /// Takes the next entry of a region that is ready. Where memory runs out the walk is of no more use.
+    pub fn take(&mut self, alloc: Global, id: u64) -> Result<Advance<'a>, NoMemory>
+        requires walk { IsWalk self.old }
+        requires few { taken self.old < entries_in (store_of self.old) }
+        requires ready { is_ready (store_of self.old) (bare (made_by self.old)) id ≡ true }
+        ensures walk { IfOk result (λ a. Keeps self.old self.new a) }
+        ensures goes { IfOk result (λ a. Goes (step (store_of self.old) (bare (made_by self.old)) id) (made_by self.new) a) }
+    {
         let effect = effect_of(&self.indexed, &self.standing, &self.regions, id)?;
         match self.step(alloc, id)? {
             None => Ok(Advance::Took(effect)),

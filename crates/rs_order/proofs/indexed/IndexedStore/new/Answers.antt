@@ -1,0 +1,14 @@
+use Rattle.std.proofs.Common.{sym, subst, ap, ◌∙◌}
+use Rattle.std.specs.Prelude.{filter}
+use Rattle.rs_order.specs.Joiners.{has_commit}
+use Rattle.rs_order.specs.Rollbacks.{AreTrue}
+use Rattle.rs_order.proofs.RollbackLaws.{none_true}
+use Rattle.rs_order.proofs.indexed.IndexedStore.new.Goals as goal
+
+pub invariant_of-result : goal.invariant_of-result
+invariant_of-result c = record {
+  all_ids = c.in_ok-ids.ensures;
+  all_joiners = c.in_ok-joiners.ensures ∙ ap (filter (has_commit c.args.store.now)) (c.as_slice.ensures.value ∙ c.in_ok-ids.ensures);
+  rising = c.requires;
+  answered = subst (AreTrue c.args.store.now) (sym c.new.ensures) (none_true c.args.store.now);
+}
