@@ -9,7 +9,8 @@ use Rattle.std.proofs.lemmas.Grind.{flat_map-append}
 use Rattle.rs_entry.specs.declared.input.Boot.{Boot}
 use Rattle.rs_order.specs.Stores.{first_some}
 use Rattle.rs_check.specs.Statements.{Stated}
-use Rattle.rs_check.specs.Laws.{least, lesser, Namings, with_naming, with_namings, is_other, is_there, is_id, is_reused_at, reused_by, Named, is_named, is_reused, reused_id, naming, names_in, reused_in, first_reused}
+use Rattle.rs_check.specs.Laws.{least, lesser, is_id, Named, is_named, is_reused, reused_id, naming, names_in, reused_in, first_reused}
+use Rattle.rs_check.specs.Namings.{Namings, with_naming, with_namings, is_other, is_there, is_reused_at, reused_by}
 use Rattle.rs_order.proofs.Folds.{drop_here}
 
 pub least_more : (best : Option (Boot × Boot)) (xs ys : List (Boot × Boot)) → least best (xs ++ ys) ≡ least (least best xs) ys

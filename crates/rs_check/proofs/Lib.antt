@@ -1,5 +1,26 @@
+pub mod Addresses
+pub mod Agreement
+pub mod Beginning
+pub mod BirthLaws
 pub mod DifferSteps
+pub mod EntryLines
+pub mod Finding
 pub mod LawSteps
+pub mod LawfulPlans
+pub mod LawfulScripts
+pub mod MergeLaws
+pub mod PartLaws
 pub mod PlanLaws
+pub mod ReshapingLaws
+pub mod RowPlaces
+pub mod SameEntries
+pub mod ScriptLines
+pub mod Sharing
+pub mod SplitIds
+pub mod Splitting
+pub mod StepLaws
+pub mod StoreEnds
+pub mod Telling
 pub mod Wellness
+pub mod WholeStores
 mod WorkedCases

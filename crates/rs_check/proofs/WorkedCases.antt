@@ -23,6 +23,8 @@ use Rattle.rs_check.specs.Laws.{check, store_law}
 use Rattle.rs_check.specs.declared.rows.Row.{Row}
 use Rattle.rs_check.specs.Plans.{rows_of, store_rows, maker_of}
 use Rattle.rs_check.specs.Lines.{line_at}
+use Rattle.rs_check.specs.Scripts.{script_of}
+use Rattle.rs_value.specs.Scripts.{Never, Opened, SplitOff}
 
 -- ---- short forms
 
@@ -191,3 +193,63 @@ other_tail : check (record { version = 1; stores = store 1 halves (log 2 (entry 
     ≡ Some (laws.Differ 1 2 2 6 (said.Entry (entry 6 1 1 (body.Commit 1 6 tail))) (said.Entry (entry 6 1 1 (commit 1 6))))
 unfolding check store_law
 other_tail = refl
+
+-- ---- the script of two stores, of which the second has no log of the new region
+
+abbrev apart : Entry
+apart = entry 6 1 1 (body.Split side.Right (2 ∷ []) ((0x6d ∷ []) ∷ []))
+
+abbrev together : Entry
+together = entry 7 1 2 (body.Commit 2 7
+    (record { index = 6; epoch = record { conf_ver = 1; version = 2 }; body = carried.Write (op.Put (0x61 ∷ []) (0x31 ∷ []) ∷ []) }
+    ∷ record { index = 7; epoch = record { conf_ver = 1; version = 2 }; body = carried.Prepare 1 } ∷ []))
+
+abbrev rejoined : Input
+rejoined = record {
+  version = 1;
+  stores = store 1 whole (log 1 (apart ∷ together ∷ []) ∷ log 2 (entry 6 1 2 (put 0x61 0x31) ∷ entry 7 1 2 (body.Prepare 1) ∷ entry 8 2 3 body.Empty ∷ []) ∷ [])
+      ∷ store 2 whole (log 1 (apart ∷ together ∷ []) ∷ []) ∷ [];
+}
+
+rejoined_is_lawful : check rejoined ≡ None
+unfolding check store_law
+rejoined_is_lawful = refl
+
+rejoined_rows : rows_of rejoined
+    ≡ row 1 1 origins.Boot 7 2 mode.Normal (6 ∷ 7 ∷ []) ∷ row 1 2 (origins.Split 1 6) 7 3 (mode.Merged 1) (7 ∷ [])
+    ∷ row 2 1 origins.Boot 7 2 mode.Normal (6 ∷ 7 ∷ []) ∷ row 2 2 (origins.Split 1 6) 7 0 (mode.Merged 1) (7 ∷ []) ∷ []
+unfolding rows_of store_rows
+rejoined_rows = refl
+
+-- the index 0 is of bootstrap regions alone
+rejoined_region : (script_of rejoined).line 1 0 ≡ None
+rejoined_region = refl
+
+rejoined_split : (script_of rejoined).line 1 6 ≡ Some apart
+rejoined_split = refl
+
+rejoined_commit : (script_of rejoined).line 1 7 ≡ Some together
+rejoined_commit = refl
+
+-- stated as carried first
+rejoined_write : (script_of rejoined).line 2 6 ≡ Some (entry 6 1 2 (put 0x61 0x31))
+rejoined_write = refl
+
+rejoined_prepare : (script_of rejoined).line 2 7 ≡ Some (entry 7 1 2 (body.Prepare 1))
+rejoined_prepare = refl
+
+-- the first store alone has it
+rejoined_past : (script_of rejoined).line 2 8 ≡ Some (entry 8 2 3 body.Empty)
+rejoined_past = refl
+
+rejoined_end : (script_of rejoined).line 2 9 ≡ None
+rejoined_end = refl
+
+rejoined_parent : (script_of rejoined).birth 1 ≡ Opened (record { start = none; end = none }) []
+rejoined_parent = refl
+
+rejoined_child : (script_of rejoined).birth 2 ≡ SplitOff 1 6
+rejoined_child = refl
+
+rejoined_none : (script_of rejoined).birth 3 ≡ Never
+rejoined_none = refl

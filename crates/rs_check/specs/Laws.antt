@@ -1,14 +1,11 @@
 -- The first fault of an input.
-use Rattle.std.specs.Prelude.{ℕ, ◌==◌, ltb, ◌&&◌, ◌||◌, not, Bool, true, false, List, [], ◌∷◌, ◌++◌, map, Option, Some, None, if◌then◌else◌}
-use Rattle.std.specs.Ordering.{nat_cmp}
-use Rattle.std.specs.BTreeMap.{get}
+use Rattle.std.specs.Prelude.{ℕ, ◌==◌, ltb, ◌&&◌, ◌||◌, not, Bool, List, [], ◌∷◌, ◌++◌, map, Option, Some, None, if◌then◌else◌}
 use Rattle.std.specs.List.{list_any, flat_map}
 use Rattle.std.specs.Option.{option_map}
 use Rattle.rs_key.specs.Ranges.{Bounds, holds}
 use Rattle.rs_entry.specs.declared.input.Boot.{Boot}
 use Rattle.rs_entry.specs.declared.input.Store.{Store}
 use Rattle.rs_entry.specs.declared.input.Input.{Input}
-use Rattle.rs_check.specs.declared.reused.Namers.{Namers}
 use Rattle.rs_entry.specs.declared.law_fault.Statement.{Statement}
 use Rattle.rs_entry.specs.declared.law_fault.Statement.TheVariants as said
 use Rattle.rs_order.specs.declared.fault.StepFault.{StepFault}
@@ -116,39 +113,6 @@ reused_in boot_ids named s = reused_at s (reused_id boot_ids named s.region s.in
 abbrev pub first_reused : List ℕ → List Named → List Stated → Option LawFault
 first_reused boot_ids named [] = None
 first_reused boot_ids named (s ∷ rest) = first_some (reused_in boot_ids named s) (first_reused boot_ids (named ++ names_in s) rest)
-
--- which split named an id first
-abbrev pub Namings : Type 0
-Namings = ℕ → Option (ℕ × ℕ)
-
-abbrev pub namings : Namers → Namings
-namings m id = get nat_cmp m.by_id id
-
-abbrev pub no_namings : Namings
-no_namings id = None
-
-abbrev pub with_naming : Namings → ℕ → ℕ → ℕ → Namings
-with_naming f id region index x = if id == x then Some (region, index) else f x
-
-abbrev pub is_other : ℕ → ℕ → Option (ℕ × ℕ) → Bool
-is_other region index None = false
-is_other region index (Some p) = not ((p.0 == region) && (p.1 == index))
-
-abbrev pub is_there : {X : Type 0} → Option X → Bool
-is_there None = false
-is_there (Some x) = true
-
-abbrev pub with_namings : Namings → ℕ → ℕ → List ℕ → Namings
-with_namings f region index [] = f
-with_namings f region index (id ∷ ids) = with_namings (with_naming f id region index) region index ids
-
-abbrev pub is_reused_at : Namings → Namings → ℕ → ℕ → List ℕ → ℕ → Bool
-is_reused_at boots names region index before id = is_there (boots id) || (list_any (is_id id) before || is_other region index (names id))
-
-abbrev pub reused_by : Namings → Namings → ℕ → ℕ → List ℕ → List ℕ → Option ℕ
-reused_by boots names region index before [] = None
-reused_by boots names region index before (id ∷ ids) =
-    if is_reused_at boots names region index before id then Some id else reused_by boots names region index (before ++ id ∷ []) ids
 
 -- ---- the whole check
 

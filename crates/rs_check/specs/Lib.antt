@@ -1,5 +1,9 @@
 pub mod Laws
+pub mod Lawfulness
 pub mod Lines
+pub mod Namings
 pub mod Plans
+pub mod Scripts
 pub mod Statements
 pub mod Tables
+pub mod Values

@@ -3,6 +3,7 @@ ghost use Rattle.std.specs.Option.{option_map};
 ghost use Rattle.rs_entry.specs.WellFormed.{WellFormed};
 ghost use Rattle.rs_order.specs.Runs.{line_entry};
 ghost use Rattle.rs_check.specs.Laws.{check};
+ghost use Rattle.rs_check.specs.Lawfulness.{PlanLaws, StoresAgree};
 ghost use Rattle.rs_check.specs.Lines.{line_at};
 ghost use Rattle.rs_check.specs.Plans.{rows_of, is_at, stop_of, own_of, ends_of, maker_of, address_of, reshapings_of, made_by};
 
@@ -65,6 +66,22 @@ impl Plan {
         ensures formed { WellFormed self.now }
     {
         &self.input
+    }
+
+    /// What holds of the regions of every lawful plan. It does nothing: its contract tells it.
+    #[tactic(auto, using(crate::proofs::LawfulPlans::plan_laws))]
+    pub fn laws(&self)
+        ensures { PlanLaws self.now }
+    {
+        let _ = &self.input;
+    }
+
+    /// A region's part at an index is the same on each store that it has come to the index on. It does nothing: its contract tells it.
+    #[tactic(auto, using(crate::proofs::LawfulPlans::stores_agree))]
+    pub fn agree(&self)
+        ensures { StoresAgree self.now }
+    {
+        let _ = &self.input;
     }
 
     /// How many addresses there are.

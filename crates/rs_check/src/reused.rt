@@ -1,6 +1,7 @@
 ghost use Rattle.std.specs.Prelude.{◌≡◌, ℕ, ◌+◌, ◌++◌, [], Option, Some, None, IfOk, OnOk, map, length, ◌≤◌, true, false};
 ghost use Rattle.std.specs.List.{list_any};
-ghost use Rattle.rs_check.specs.Laws.{namings, no_namings, with_naming, with_namings, is_other, is_there, is_id, is_reused_at, reused_by, ids_said, first_reused, Named};
+ghost use Rattle.rs_check.specs.Laws.{is_id, ids_said, first_reused, Named};
+ghost use Rattle.rs_check.specs.Namings.{namings, no_namings, with_naming, with_namings, is_other, is_there, is_reused_at, reused_by};
 ghost use Rattle.rs_check.specs.Statements.{said_of};
 
 use crate::overlap::Root;

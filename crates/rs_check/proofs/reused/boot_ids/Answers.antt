@@ -1,6 +1,6 @@
 use Rattle.std.proofs.Common.{◌<◌, ◌∙◌, ap, length, ◌≡◌, subst}
 use Rattle.rs_entry.specs.declared.input.Boot.{Boot}
-use Rattle.rs_check.specs.Laws.{namings, is_there, Namings, with_naming}
+use Rattle.rs_check.specs.Namings.{namings, is_there, Namings, with_naming}
 use Rattle.rs_check.proofs.LawSteps.{boots_more}
 use Rattle.rs_check.proofs.reused.boot_ids.Goals as goal
 

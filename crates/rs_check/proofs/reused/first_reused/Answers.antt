@@ -4,7 +4,8 @@ use Rattle.std.specs.List.{flat_map, list_any}
 use Rattle.rs_entry.specs.declared.input.Boot.{Boot}
 use Rattle.rs_order.specs.Stores.{first_some}
 use Rattle.rs_check.specs.Statements.{Stated, said_of}
-use Rattle.rs_check.specs.Laws.{namings, Namings, with_namings, is_other, is_named, names_in, ids_said, reused_by, reused_id, reused_at, first_reused}
+use Rattle.rs_check.specs.Laws.{is_named, names_in, ids_said, reused_id, reused_at, first_reused}
+use Rattle.rs_check.specs.Namings.{namings, Namings, with_namings, is_other, reused_by}
 use Rattle.rs_check.proofs.LawSteps.{same_reused, reused_far, named_here, names_more, free_of}
 use Rattle.rs_check.proofs.reused.first_reused.Goals as goal
 

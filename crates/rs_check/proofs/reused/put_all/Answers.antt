@@ -1,5 +1,5 @@
 use Rattle.std.proofs.Common.{◌<◌, ◌+◌, ◌∙◌, ap, sym, length, drop, get_or}
-use Rattle.rs_check.specs.Laws.{namings, with_namings}
+use Rattle.rs_check.specs.Namings.{namings, with_namings}
 use Rattle.rs_order.proofs.Rising.{get_or_any}
 use Rattle.rs_check.proofs.LawSteps.{put_next}
 use Rattle.rs_check.proofs.reused.put_all.Goals as goal

@@ -1,5 +1,5 @@
 use Rattle.std.proofs.Common.{◌≡◌, drop}
-use Rattle.rs_check.specs.Laws.{namings, with_namings}
+use Rattle.rs_check.specs.Namings.{namings, with_namings}
 use Rattle.rs_check.proofs.reused.put_all.Given as goal
 
 abbrev pub invariant-loop-id : goal.invariant-loop-id

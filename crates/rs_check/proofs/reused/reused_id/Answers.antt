@@ -1,5 +1,5 @@
 use Rattle.std.proofs.Common.{◌<◌, ◌∙◌, sym, length, get_or}
-use Rattle.rs_check.specs.Laws.{namings}
+use Rattle.rs_check.specs.Namings.{namings}
 use Rattle.rs_order.proofs.Rising.{get_or_any}
 use Rattle.rs_check.proofs.LawSteps.{reused_next}
 use Rattle.rs_check.proofs.reused.reused_id.Goals as goal

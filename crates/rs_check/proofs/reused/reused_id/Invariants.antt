@@ -1,5 +1,5 @@
 use Rattle.std.proofs.Common.{◌≡◌, take, drop, []}
-use Rattle.rs_check.specs.Laws.{namings, reused_by}
+use Rattle.rs_check.specs.Namings.{namings, reused_by}
 use Rattle.rs_check.proofs.reused.reused_id.Given as goal
 
 abbrev pub invariant-loop-place : goal.invariant-loop-place

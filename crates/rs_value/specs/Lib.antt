@@ -1,0 +1,13 @@
+pub mod Agreed
+pub mod Counting
+pub mod Effects
+pub mod Held
+pub mod Items
+pub mod Orders
+pub mod Parts
+pub mod Ranges
+pub mod Scripts
+pub mod Settled
+pub mod Sound
+pub mod Telling
+pub mod Whole
