@@ -143,7 +143,7 @@ put_same id y (z ∷ zs) = go (ltb z.region y.region) refl (put_same id y zs) wh
   go true e m = front id z (put_reply y zs) (y ∷ zs) m ∙ swap id y z zs (ltb-true z.region y.region e)
   go false e m = refl
 
-by_region_same : (id : ℕ) (ys : List ReplyLine) → filter (of_region id) (by_region ys) ≡ filter (of_region id) ys
+pub by_region_same : (id : ℕ) (ys : List ReplyLine) → filter (of_region id) (by_region ys) ≡ filter (of_region id) ys
 by_region_same id [] = refl
 by_region_same id (y ∷ ys) = put_same id y (by_region ys) ∙ front id y (by_region ys) ys (by_region_same id ys)
 

@@ -51,7 +51,7 @@ abbrev pub put_reply : ReplyLine → List ReplyLine → List ReplyLine
 put_reply y [] = y ∷ []
 put_reply y (z ∷ zs) = if ltb z.region y.region then z ∷ put_reply y zs else y ∷ z ∷ zs
 
--- the replies by region, and those of a region in their order, in which their indexes rise
+-- the replies by region, and those of a region in their order
 abbrev pub by_region : List ReplyLine → List ReplyLine
 by_region [] = []
 by_region (y ∷ ys) = put_reply y (by_region ys)

@@ -1,12 +1,14 @@
 ghost use Rattle.std.specs.Prelude.{◌≡◌, IfOk, map};
 ghost use Rattle.rs_order.specs.Formed.{IsFormedOne, IsFormedStores};
-ghost use Rattle.rs_fold.specs.Ends.{IsLawful, AreLawful};
+ghost use Rattle.rs_order.specs.Runs.{seen};
+ghost use Rattle.rs_order.specs.Stores.{ids_of};
+ghost use Rattle.rs_fold.specs.Ends.{IsLawful, AreLawful, outcome_left};
 ghost use Rattle.rs_fold.specs.Outcomes.{store_outcome, outcome_of};
 
 use crate::pairs::pairs_of;
 use crate::region_lines::{lines_in, removed_in};
 use crate::replies::by_region;
-use crate::run::run_to_end;
+use crate::run::{End, run_to_end};
 use rs_check::Plan;
 use rs_entry::{Outcome, Store, StoreOutcome};
 use rs_key::{NoMemory, Rows};
@@ -41,6 +43,15 @@ fn store_outcome(alloc: Global, store: &Store) -> Result<StoreOutcome, NoMemory>
     ensures { IfOk result (λ outcome. outcome ≡ store_outcome store.now) }
 {
     let end = run_to_end(alloc, store)?;
+    outcome_of_end(alloc, store, end)
+}
+
+/// What comes of a store that was run to this end.
+pub fn outcome_of_end(alloc: Global, store: &Store, end: End<'_>) -> Result<StoreOutcome, NoMemory>
+    requires formed { IsFormedOne store.now }
+    requires ids { end.arrived.ids.items ≡ ids_of store.now }
+    ensures { IfOk result (λ outcome. outcome ≡ outcome_left store.now (seen end.entry.arrived.regions) end.entry.writes end.entry.replies.items) }
+{
     let regions = &end.arrived.regions;
     let ids = end.arrived.ids.as_slice();
     let lines = lines_in(alloc, store, regions, ids)?;

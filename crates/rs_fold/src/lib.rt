@@ -2,8 +2,10 @@
 #![tactic(auto)]
 
 mod accepted_write;
+mod fold_error;
 mod folding;
 mod grouping;
+mod in_order;
 mod key_code;
 mod lookup;
 mod pairs;
@@ -14,7 +16,9 @@ mod run;
 mod tests;
 mod writes;
 
+pub use fold_error::FoldError;
 pub use folding::fold;
+pub use in_order::fold_in;
 pub use lookup::history;
 pub use pairs::pairs_of;
 pub use writes::Writes;

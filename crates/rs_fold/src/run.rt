@@ -55,7 +55,8 @@ pub fn run_to_end<'a>(alloc: Global, store: &'a Store) -> Result<End<'a>, NoMemo
     })
 }
 
-fn record_reply(
+/// Adds the reply of the region's entry, where there is one.
+pub fn record_reply(
     replies: &mut Vec<ReplyLine>,
     region: u64,
     index: u64,

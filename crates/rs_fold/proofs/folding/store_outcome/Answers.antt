@@ -1,18 +1,11 @@
-use Rattle.std.proofs.Common.{◌≡◌, ◌∙◌, sym, ap}
+use Rattle.std.proofs.Common.{◌≡◌, sym, subst}
+use Rattle.std.specs.Prelude.{IfOk}
+use Rattle.rs_entry.specs.declared.outcome.StoreOutcome.{StoreOutcome}
 use Rattle.rs_order.specs.Runs.{seen}
-use Rattle.rs_order.specs.Stores.{ids_of}
-use Rattle.rs_fold.specs.Histories.{histories_of}
-use Rattle.rs_fold.specs.Outcomes.{lines_in, removed_in, shown}
-use Rattle.rs_fold.proofs.EndLaws.{outcome_is, outcome_made}
+use Rattle.rs_fold.proofs.EndLaws.{outcome_is}
 use Rattle.rs_fold.proofs.folding.store_outcome.Goals as goal
 
 pub returns : goal.returns
 returns c =
-    let ids : c.as_slice-ids.result.now ≡ ids_of c.args.store.now = c.as_slice-ids.ensures.value ∙ c.in_ok-end.ensures.ids in
-    let removed : c.in_ok-removed.removed.items ≡ removed_in (seen c.in_ok-end.end.arrived.regions) (ids_of c.args.store.now) =
-    c.in_ok-removed.ensures ∙ ap (removed_in (seen c.in_ok-end.end.arrived.regions)) ids in
-    outcome_made c.args.store.now.id _ (lines_in c.args.store.now (seen c.in_ok-end.end.arrived.regions) (ids_of c.args.store.now)) c.in_ok-by_region.field-0 c.in_ok-end.end.replies.items c.in_ok-pairs_of.field-0 c.in_ok-histories.histories (histories_of (shown (removed_in (seen c.in_ok-end.end.arrived.regions) (ids_of c.args.store.now)) c.in_ok-end.end.writes))
-    (c.lines.view_is ∙ (c.in_ok-lines.ensures ∙ ap (lines_in c.args.store.now (seen c.in_ok-end.end.arrived.regions)) ids))
-    c.in_ok-by_region.ensures c.in_ok-pairs_of.ensures
-    (c.in_ok-histories.ensures ∙ ap histories_of (c.in_ok-writes.ensures ∙ ap (λ ranges. shown ranges c.in_ok-end.end.writes) (c.as_slice.ensures.value ∙ removed)))
-    ∙ sym (outcome_is c.args.store.now (seen c.in_ok-end.end.arrived.regions) c.in_ok-end.end.writes c.in_ok-end.end.replies.items c.in_ok-end.ensures.value)
+    subst (λ (wanted : StoreOutcome). IfOk c.outcome_of_end.result (λ o. o ≡ wanted))
+    (sym (outcome_is c.args.store.now (seen c.in_ok-end.end.arrived.regions) c.in_ok-end.end.writes c.in_ok-end.end.replies.items c.in_ok-end.ensures.value)) c.outcome_of_end.ensures
