@@ -1,0 +1,34 @@
+-- Births that are sent one after another.
+use Rattle.std.proofs.Common.{ℕ, List, [], ◌∷◌, ◌++◌, ap, sym, ◌∙◌, Result, Ok, Err}
+use Rattle.std.specs.Prelude.{OnOk, IfOk}
+use Rattle.std.proofs.lemmas.List.{append_assoc, append-nil}
+use Rattle.rs_entry.specs.declared.input.Input.{Input}
+use Rattle.rs_region.specs.declared.state.RegionState.{RegionState}
+use Rattle.rs_msg.specs.declared.messages.ApplyMsg.{ApplyMsg}
+use Rattle.rs_apply.specs.Births.{AreBirths, AddsBirths}
+
+pub if_ok : {A B : Type 0} (r : Result A B) (P Q : Type 0) → OnOk r P → (P → Q) → OnOk r Q
+if_ok (Ok x) P Q p f = f p
+if_ok (Err e) P Q p f = tt
+
+pub if_ok_with : {A B : Type 0} (r : Result A B) (P Q : A → Type 0) → IfOk r P → ((x : A) → P x → Q x) → IfOk r Q
+if_ok_with (Ok x) P Q p f = f x p
+if_ok_with (Err e) P Q p f = tt
+
+both_births : (input : Input) (a : ℕ) (states more : List RegionState) (ps qs : List (ℕ × ApplyMsg)) → AreBirths input a states ps → AreBirths input a more qs → AreBirths input a (states ++ more) (ps ++ qs)
+both_births input a [] more [] qs h k = k
+both_births input a [] more (p ∷ ps) qs h k = absurd h
+both_births input a (s ∷ states) more [] qs h k = absurd h
+both_births input a (s ∷ states) more (p ∷ ps) qs h k = (h.0, h.1, both_births input a states more ps qs h.2 k)
+
+-- births of some regions, and then of others
+pub adds_both : (input : Input) (a : ℕ) (states more : List RegionState) (old mid new : List (ℕ × ApplyMsg)) → AddsBirths input a states old mid → AddsBirths input a more mid new → AddsBirths input a (states ++ more) old new
+adds_both input a states more old mid new first second =
+    record {
+      sent = first.sent ++ second.sent;
+      is = second.is ∙ ap (λ l. l ++ second.sent) first.is ∙ append_assoc old first.sent second.sent;
+      births = both_births input a states more first.sent second.sent first.births second.births;
+    }
+
+pub adds_none : (input : Input) (a : ℕ) (old : List (ℕ × ApplyMsg)) → AddsBirths input a [] old old
+adds_none input a old = record { sent = []; is = sym (append-nil old); births = tt }

@@ -1,0 +1,10 @@
+pub mod Births
+pub mod Findings
+pub mod Fitting
+pub mod Handling
+pub mod Machines
+pub mod Merges
+pub mod Reshapings
+pub mod Runs
+pub mod SplitAndMerge
+pub mod Steps

@@ -1,0 +1,86 @@
+//! What is kept and told of an entry that was applied.
+
+ghost use Rattle.std.specs.Prelude.{◌≡◌, ◌+◌, ◌≤◌, ◌<◌, ◌^◌, ◌++◌, option_to_list, if◌then◌else◌, OnOk, IfOk, IfSome, position, ◌==◌};
+ghost use Rattle.rs_check.specs.Values.{count_of, reply_lines};
+ghost use Rattle.rs_apply.specs.Findings.{store_place};
+ghost use Rattle.rs_apply.specs.Reshapings.{reshaped_if};
+
+use crate::next::Next;
+use rs_check::Plan;
+use rs_entry::{Reply, ReplyLine};
+use rs_key::{NoMemory, Rows};
+use rs_msg::StoreMsg;
+
+pub fn note_reply(
+    replies: &mut Rows<ReplyLine>,
+    region: u64,
+    index: u64,
+    reply: Option<Reply>,
+) -> Result<(), NoMemory>
+    ensures { OnOk result (replies.new ≡ replies.old ++ reply_lines region index (option_to_list reply)) }
+{
+    match reply {
+        None => Ok(()),
+        Some(reply) => replies.push(ReplyLine {
+            region,
+            index,
+            reply,
+        }),
+    }
+}
+
+pub fn note_merge(merged: &mut Rows<(u64, u64)>, merge: Option<(u64, u64)>) -> Result<(), NoMemory>
+    ensures { OnOk result (merged.new ≡ merged.old ++ option_to_list merge) }
+{
+    match merge {
+        None => Ok(()),
+        Some(merge) => merged.push(merge),
+    }
+}
+
+/// Counts a reshaping, and tells it to the store's control machine.
+pub fn tell_reshaping<'p>(
+    next: Next<'p>,
+    reshaped: u64,
+    is: bool,
+    stores: &mut Rows<(u32, StoreMsg<'p>)>,
+) -> Result<u64, NoMemory>
+    requires few { reshaped < 2 ^ 62 }
+    ensures count { IfOk result (λ nth. nth ≡ (if is then reshaped + 1 else reshaped)) }
+    ensures stores { IfOk result (λ nth. stores.new ≡ stores.old ++ reshaped_if next.entry.plan next.entry.address nth is) }
+{
+    if !is {
+        return Ok(reshaped);
+    }
+    let plan = next.plan;
+    let address = next.address;
+    let nth = reshaped + 1;
+    stores.push((
+        store_place(plan, address),
+        StoreMsg::Reshaped { plan, address, nth },
+    ))?;
+    Ok(nth)
+}
+
+/// The place of the address's store among the plan's stores.
+pub fn store_place(plan: &Plan, address: u32) -> u32
+    requires below { address < count_of plan.now }
+    ensures { result ≡ store_place plan.now address }
+{
+    let (store, _) = plan.address(address);
+    match place_of(plan, store) {
+        None => 0,
+        Some(place) => place as u32,
+    }
+}
+
+fn place_of(plan: &Plan, store: u64) -> Option<usize>
+    ensures place { result ≡ position (λ s. s.id == store) plan.now.stores }
+    ensures within { IfSome result (λ place. place < 64) }
+{
+    plan.input()
+        .stores
+        .as_slice()
+        .iter()
+        .position(|s| s.id == store)
+}

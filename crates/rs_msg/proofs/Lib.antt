@@ -1,0 +1,2 @@
+mod SmallInputLaws
+mod SmallParts

@@ -1,0 +1,73 @@
+use crate::closed::Closed;
+use crate::ending::Ending;
+use crate::piece::Piece;
+use rs_check::Plan;
+
+/// What a region's peer machine is told.
+#[derive(Drop)]
+pub enum PeerMsg<'p> {
+    /// The store's own log of the region is there up to this index.
+    Deliver {
+        plan: &'p Plan,
+        upto: u64,
+    },
+    /// The target, a region on the same store, stands before its commit of the region's prepare at `commit`.
+    CatchUp {
+        plan: &'p Plan,
+        target: u64,
+        commit: u64,
+    },
+    /// Its apply machine has applied the entries up to this index.
+    Applied {
+        plan: &'p Plan,
+        upto: u64,
+    },
+    /// The target has taken the region over.
+    MergeResult {
+        plan: &'p Plan,
+        target: u64,
+    },
+}
+
+/// What a region's apply machine is told.
+#[derive(Drop)]
+pub enum ApplyMsg<'p> {
+    /// The entries up to this index may be applied.
+    Task {
+        plan: &'p Plan,
+        upto: u64,
+    },
+    /// The region was split off, with this state and this map.
+    Birth {
+        piece: Box<Piece<'p>>,
+    },
+    /// It is to hand over to the target once its prepare at `commit` is applied.
+    CatchUpLogs {
+        plan: &'p Plan,
+        target: u64,
+        commit: u64,
+    },
+    /// A source hands over.
+    SourceDone {
+        closed: Box<Closed<'p>>,
+    },
+    /// Nothing.
+    Noop {
+        plan: &'p Plan,
+    },
+}
+
+/// What a store's control machine is told.
+#[derive(Drop)]
+pub enum StoreMsg<'p> {
+    /// The address has applied its nth reshaping, counted from 1.
+    Reshaped {
+        plan: &'p Plan,
+        address: u32,
+        nth: u64,
+    },
+    /// A region has ended.
+    Ended {
+        ending: Box<Ending<'p>>,
+    },
+}

@@ -1,0 +1,64 @@
+ghost use Rattle.std.specs.Prelude.{◌≡◌, ◌<◌};
+ghost use Rattle.rs_check.specs.Values.{count_of};
+ghost use Rattle.rs_msg.specs.Held.{IsHeld};
+
+use rs_check::Plan;
+use rs_map::Map;
+use rs_region::RegionState;
+
+/// A region that was just made: its state and its map before its first entry.
+#[derive(Drop)]
+pub struct Piece<'p> {
+    plan: &'p Plan,
+    address: u32,
+    state: RegionState,
+    map: Map,
+    ghost below: { address < count_of plan.now },
+    ghost held: { IsHeld plan.now address 5 state map },
+}
+
+impl<'p> Piece<'p> {
+    /// It takes no memory.
+    pub fn new(plan: &'p Plan, address: u32, state: RegionState, map: Map) -> Piece<'p>
+        requires below { address < count_of plan.now }
+        requires held { IsHeld plan.now address 5 state map }
+        ensures plan { result.plan ≡ plan.entry }
+        ensures address { result.address ≡ address }
+        ensures state { result.state ≡ state }
+        ensures map { result.map ≡ map }
+    {
+        Piece {
+            plan,
+            address,
+            state,
+            map,
+        }
+    }
+
+    pub fn address(&self) -> u32
+        ensures { result ≡ self.now.address }
+    {
+        self.address
+    }
+
+    pub fn state(&self) -> &RegionState
+        ensures { result.now ≡ self.now.state }
+    {
+        &self.state
+    }
+
+    pub fn map(&self) -> &Map
+        ensures { result.now ≡ self.now.map }
+    {
+        &self.map
+    }
+
+    /// The state and the map, moved out.
+    pub fn take(self) -> (RegionState, Map)
+        ensures state { result.0 ≡ self.entry.state }
+        ensures map { result.1 ≡ self.entry.map }
+        ensures held { IsHeld self.entry.plan.now self.entry.address 5 result.0 result.1 }
+    {
+        (self.state, self.map)
+    }
+}
