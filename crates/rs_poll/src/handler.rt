@@ -1,7 +1,8 @@
-ghost use Rattle.std.specs.Prelude.{◌≡◌, ℕ, OnOk, length};
+ghost use Rattle.std.specs.Prelude.{◌≡◌, ℕ, IfOk, MatchResult, OnOk, length};
 ghost use Rattle.rs_router.specs.Desks.{AreDesksOf, AllCalm, AllNamed};
 ghost use Rattle.rs_router.specs.Lists.{Rose, SameBag, StartsWith};
 ghost use Rattle.rs_router.specs.Turns.{turn_steps};
+ghost use Rattle.rs_poll.specs.Counts.{RoseBy};
 
 use rs_key::NoMemory;
 use rs_mailcore::{Fsm, Named};
@@ -18,8 +19,11 @@ pub enum More {
 /// What a worker does with a machine and its messages.
 ///
 /// A handler has a name, and is lent machines, messages and a router of that name alone. What it has to tell others it
-/// puts into its `Out`, and `send_out` sends that once the machine is given back. It counts its calls of `advance`.
+/// puts into its `Out`, and `send_out` sends that once the machine is given back. It counts the messages that it
+/// handled and how often it advanced, and knows what `advance` answered last. Where it has no memory its counts stay.
 pub trait Handler<F: Fsm, S: Scheduler>: Send + Drop {
+    ghost use Rattle.rs_poll.specs.declared.handler.More.{More};
+
     /// What comes out of the machines, until it is sent.
     type Out: Send + Drop;
 
@@ -29,8 +33,14 @@ pub trait Handler<F: Fsm, S: Scheduler>: Send + Drop {
     /// The number of mailboxes of the router that it is lent.
     ghost count: { Self → ℕ };
 
-    /// How often `advance` was called. It stands still at its last value.
+    /// How many messages `handle` answered Ok. It stands still at its last value.
+    ghost handles: { Self → ℕ };
+
+    /// How often `advance` answered Ok. It stands still at its last value.
     ghost advances: { Self → ℕ };
+
+    /// What `advance` answered when it last answered Ok.
+    ghost asked: { Self → More };
 
     /// Which values of `Out` it may be lent.
     ghost fits: { Self → Self.Out → Type 0 };
@@ -51,6 +61,7 @@ pub trait Handler<F: Fsm, S: Scheduler>: Send + Drop {
         ensures name { name self.new ≡ name self.old }
         ensures count { count self.new ≡ count self.old }
         ensures out { fits self.new out.new }
+        ensures handles { MatchResult result (λ _. RoseBy 1 (handles self.old) (handles self.new)) (λ _. handles self.new ≡ handles self.old) }
         ensures advances { advances self.new ≡ advances self.old };
 
     /// Lets the machine go on, by so much at most.
@@ -66,7 +77,9 @@ pub trait Handler<F: Fsm, S: Scheduler>: Send + Drop {
         ensures name { name self.new ≡ name self.old }
         ensures count { count self.new ≡ count self.old }
         ensures out { fits self.new out.new }
-        ensures advances { Rose (advances self.old) (advances self.new) };
+        ensures handles { handles self.new ≡ handles self.old }
+        ensures advances { MatchResult result (λ _. Rose (advances self.old) (advances self.new)) (λ _. advances self.new ≡ advances self.old) }
+        ensures asked { IfOk result (λ more. asked self.new ≡ more) };
 
     /// Sends what came out. With Ok it took, gave back and closed nothing by these desks, and popped nothing.
     fn send_out<R: Wait>(
@@ -89,7 +102,9 @@ pub trait Handler<F: Fsm, S: Scheduler>: Send + Drop {
         ensures name { name self.new ≡ name self.old }
         ensures count { count self.new ≡ count self.old }
         ensures out { fits self.new out.new }
+        ensures handles { handles self.new ≡ handles self.old }
         ensures advances { advances self.new ≡ advances self.old }
+        ensures asked { asked self.new ≡ asked self.old }
         ensures pushed { StartsWith (S.pushed pass.new) (S.pushed pass.old) }
         ensures popped { OnOk result (SameBag (S.popped pass.old) (S.popped pass.new)) }
         ensures empties { OnOk result (S.empties pass.new ≡ S.empties pass.old) }

@@ -12,8 +12,10 @@ mod tests;
 mod turns;
 mod visits;
 mod worked;
+mod worker;
 
 pub use handler::{Handler, More};
 pub use poller::Poller;
 pub use stop::Stop;
 pub use worked::Worked;
+pub use worker::Worker;

@@ -5,12 +5,13 @@ ghost use Rattle.rs_router.specs.Lists.{Adds, Rose, SameBag, StartsWith};
 ghost use Rattle.rs_router.specs.Turns.{turn_steps};
 ghost use Rattle.rs_poll.specs.Answers.{MatchWorked};
 ghost use Rattle.rs_poll.specs.Kept.{AllNamed_prop, AreDesksOf_prop};
-ghost use Rattle.rs_poll.specs.Visits.{Leaves, Turns};
+ghost use Rattle.rs_poll.specs.Visits.{Handles, Leaves, Turns};
 
 use crate::handler::Handler;
 use crate::stop::Stop;
 use crate::turns::take_turn;
 use crate::worked::Worked;
+use crate::worker::Worker;
 use once_cell::race::{Note, OnceBox};
 use rs_base::Gate;
 use rs_key::NoMemory;
@@ -18,7 +19,7 @@ use rs_mailcore::{Fsm, Named};
 use rs_router::{Desks, Router, Scheduler};
 use std::sync::Wait;
 
-/// One worker: its desks and its pass of a router, and its handler.
+/// One worker, with its desks of a router.
 ///
 /// All its stations are calm between its calls, so it never has a machine then. It goes into a thread by value, and
 /// brings all that its calls need.
@@ -26,17 +27,12 @@ use std::sync::Wait;
 pub struct Poller<'r, F: Fsm, S: Scheduler, H: Handler<F, S>> {
     pub router: &'r Router<F, S>,
     pub desks: Desks<F>,
-    pub pass: S::Pass,
-    pub handler: H,
-    pub out: H::Out,
-    pub worker: u32,
-    pub batch: u32,
+    pub worker: Worker<F, S, H>,
     ghost tied: { AreDesksOf F.name router.now.mailboxes.items desks.stations.items } by { AreDesksOf_prop F.one_name F.name router.now.mailboxes.items desks.stations.items },
-    ghost owned: { S.id router.now.scheduler ≡ S.pass_id pass } by { S.one_id (S.id router.now.scheduler) (S.pass_id pass) },
+    ghost owned: { S.id router.now.scheduler ≡ S.pass_id worker.pass } by { S.one_id (S.id router.now.scheduler) (S.pass_id worker.pass) },
     ghost calm: { AllCalm desks.stations.items },
-    ghost named: { AllNamed F.name (H.name handler) router.now.mailboxes.items } by { AllNamed_prop F.one_name F.name (H.name handler) router.now.mailboxes.items },
-    ghost counted: { length router.now.mailboxes.items ≡ H.count handler },
-    ghost fitting: { H.fits handler out } by { H.one_fit handler out },
+    ghost named: { AllNamed F.name (H.name worker.handler) router.now.mailboxes.items } by { AllNamed_prop F.one_name F.name (H.name worker.handler) router.now.mailboxes.items },
+    ghost counted: { length router.now.mailboxes.items ≡ H.count worker.handler },
 }
 
 impl<'r, F: Fsm, S: Scheduler, H: Handler<F, S>> Poller<'r, F, S, H> {
@@ -58,55 +54,48 @@ impl<'r, F: Fsm, S: Scheduler, H: Handler<F, S>> Poller<'r, F, S, H> {
         requires out { H.fits handler out }
         ensures router { result.router.now ≡ router.now }
         ensures desks { result.desks ≡ desks }
-        ensures pass { result.pass ≡ pass }
-        ensures handler { (result.handler ≡ handler) × (result.out ≡ out) }
-        ensures numbers { (result.worker ≡ worker) × (result.batch ≡ batch) }
+        ensures pass { result.worker.pass ≡ pass }
+        ensures handler { (result.worker.handler ≡ handler) × (result.worker.out ≡ out) }
+        ensures numbers { (result.worker.number ≡ worker) × (result.worker.batch ≡ batch) }
     {
         Poller {
             router,
             desks,
-            pass,
-            handler,
-            out,
-            worker,
-            batch,
+            worker: Worker {
+                pass,
+                handler,
+                out,
+                number: worker,
+                batch,
+            },
         }
     }
 
     /// What came out of the machines and wasn't sent.
     pub fn out(&self) -> &H::Out
-        ensures { result.now ≡ self.now.out }
+        ensures { result.now ≡ self.now.worker.out }
     {
-        &self.out
+        &self.worker.out
     }
 
     /// One turn, in these steps: it pops a ticket and takes its machine, passes the gate, handles at most `batch` messages,
     /// advances once, gives the machine back, and sends what came out. The machine is rescheduled where it asked for
-    /// more, or where messages came while it was given back.
+    /// more, or where its release found more messages announced than handled.
     ///
     /// Where memory is refused with the machine at hand, or its ticket is refused, the mailbox is closed and the machine
     /// dropped. After NoMemory the run is to end.
     pub fn poll_once<R: Wait, G: Gate>(&mut self, rt: &R, gate: &G) -> Result<Worked, NoMemory>
         ensures router { self.new.router.now ≡ self.old.router.now }
-        ensures numbers { (self.new.worker ≡ self.old.worker) × (self.new.batch ≡ self.old.batch) }
-        ensures name { H.name self.new.handler ≡ H.name self.old.handler }
-        ensures pushed { StartsWith (S.pushed self.new.pass) (S.pushed self.old.pass) }
-        ensures popped { IfOk result (λ w. MatchWorked w (λ a. Adds a (S.popped self.old.pass) (S.popped self.new.pass)) (λ a. Adds a (S.popped self.old.pass) (S.popped self.new.pass)) (SameBag (S.popped self.old.pass) (S.popped self.new.pass))) }
-        ensures empties { IfOk result (λ w. MatchWorked w (λ _. S.empties self.new.pass ≡ S.empties self.old.pass) (λ _. S.empties self.new.pass ≡ S.empties self.old.pass) (Rose (S.empties self.old.pass) (S.empties self.new.pass) × S.saw_empty self.old.pass)) }
-        ensures advances { IfOk result (λ w. MatchWorked w (λ _. Rose (H.advances self.old.handler) (H.advances self.new.handler)) (λ _. Unit {0}) (H.advances self.new.handler ≡ H.advances self.old.handler)) }
-        ensures steps { IfOk result (λ w. MatchWorked w (λ a. ChangesAt a (Turns self.old.batch a (S.pushed self.old.pass) (S.pushed self.new.pass)) (turn_steps self.old.desks.stations.items) (turn_steps self.new.desks.stations.items)) (λ a. ChangesAt a (Leaves self.old.batch) (turn_steps self.old.desks.stations.items) (turn_steps self.new.desks.stations.items)) (turn_steps self.new.desks.stations.items ≡ turn_steps self.old.desks.stations.items)) }
+        ensures numbers { (self.new.worker.number ≡ self.old.worker.number) × (self.new.worker.batch ≡ self.old.worker.batch) }
+        ensures name { H.name self.new.worker.handler ≡ H.name self.old.worker.handler }
+        ensures pushed { StartsWith (S.pushed self.new.worker.pass) (S.pushed self.old.worker.pass) }
+        ensures popped { IfOk result (λ w. MatchWorked w (λ a. Adds a (S.popped self.old.worker.pass) (S.popped self.new.worker.pass)) (λ a. Adds a (S.popped self.old.worker.pass) (S.popped self.new.worker.pass)) (SameBag (S.popped self.old.worker.pass) (S.popped self.new.worker.pass))) }
+        ensures empties { IfOk result (λ w. MatchWorked w (λ _. S.empties self.new.worker.pass ≡ S.empties self.old.worker.pass) (λ _. S.empties self.new.worker.pass ≡ S.empties self.old.worker.pass) (Rose (S.empties self.old.worker.pass) (S.empties self.new.worker.pass) × S.saw_empty self.old.worker.pass)) }
+        ensures advances { IfOk result (λ w. MatchWorked w (λ _. Rose (H.advances self.old.worker.handler) (H.advances self.new.worker.handler)) (λ _. Unit {0}) (H.advances self.new.worker.handler ≡ H.advances self.old.worker.handler)) }
+        ensures handles { IfOk result (λ w. MatchWorked w (λ _. Unit {0}) (λ _. Unit {0}) (H.handles self.new.worker.handler ≡ H.handles self.old.worker.handler)) }
+        ensures steps { IfOk result (λ w. MatchWorked w (λ a. ChangesAt a (Turns (Handles self.old.worker.batch (H.handles self.old.worker.handler) (H.handles self.new.worker.handler)) (H.asked self.new.worker.handler) a (S.pushed self.old.worker.pass) (S.pushed self.new.worker.pass)) (turn_steps self.old.desks.stations.items) (turn_steps self.new.desks.stations.items)) (λ a. ChangesAt a (Leaves (Handles self.old.worker.batch (H.handles self.old.worker.handler) (H.handles self.new.worker.handler)) (H.asked self.new.worker.handler)) (turn_steps self.old.desks.stations.items) (turn_steps self.new.desks.stations.items)) (turn_steps self.new.desks.stations.items ≡ turn_steps self.old.desks.stations.items)) }
     {
-        take_turn(
-            rt,
-            gate,
-            self.router,
-            &mut self.desks,
-            &mut self.pass,
-            &mut self.handler,
-            &mut self.out,
-            self.worker,
-            self.batch,
-        )
+        take_turn(rt, gate, self.router, &mut self.desks, &mut self.worker)
     }
 
     /// Takes turns until `stop` is set, and waits where there was no ticket. Ok comes only where the note knows the cell's
@@ -120,7 +109,9 @@ impl<'r, F: Fsm, S: Scheduler, H: Handler<F, S>> Poller<'r, F, S, H> {
     ) -> Result<(), NoMemory>
         requires note { note.old.cell ≡ cell_name stop.now }
         ensures router { self.new.router.now ≡ self.old.router.now }
-        ensures name { H.name self.new.handler ≡ H.name self.old.handler }
+        ensures numbers { (self.new.worker.number ≡ self.old.worker.number) × (self.new.worker.batch ≡ self.old.worker.batch) }
+        ensures name { H.name self.new.worker.handler ≡ H.name self.old.worker.handler }
+        ensures pushed { StartsWith (S.pushed self.new.worker.pass) (S.pushed self.old.worker.pass) }
         ensures note { note.new.cell ≡ cell_name stop.now }
         ensures known { OnOk result (IsSome note.new.known) }
     {
@@ -129,7 +120,7 @@ impl<'r, F: Fsm, S: Scheduler, H: Handler<F, S>> Poller<'r, F, S, H> {
                 return Ok(());
             }
             if let Worked::Nothing = self.poll_once(rt, gate)? {
-                idle(rt, self.router, &mut self.pass);
+                idle(rt, self.router, &mut self.worker);
             }
         }
         unreachable!()
@@ -137,9 +128,16 @@ impl<'r, F: Fsm, S: Scheduler, H: Handler<F, S>> Poller<'r, F, S, H> {
 }
 
 // Waits until there may be a ticket.
-fn idle<R: Wait, F: Fsm, S: Scheduler>(rt: &R, router: &Router<F, S>, pass: &mut S::Pass)
-    requires { S.id router.now.scheduler ≡ S.pass_id pass.old }
-    ensures { S.pass_id pass.new ≡ S.pass_id pass.old }
+fn idle<R: Wait, F: Fsm, S: Scheduler, H: Handler<F, S>>(
+    rt: &R,
+    router: &Router<F, S>,
+    worker: &mut Worker<F, S, H>,
+)
+    requires pass { S.id router.now.scheduler ≡ S.pass_id worker.old.pass }
+    ensures pass { S.id router.now.scheduler ≡ S.pass_id worker.new.pass }
+    ensures handler { worker.new.handler ≡ worker.old.handler }
+    ensures numbers { (worker.new.number ≡ worker.old.number) × (worker.new.batch ≡ worker.old.batch) }
+    ensures pushed { S.pushed worker.new.pass ≡ S.pushed worker.old.pass }
 {
-    router.scheduler().idle(rt, pass);
+    router.scheduler().idle(rt, &mut worker.pass);
 }

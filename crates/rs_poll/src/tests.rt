@@ -4,6 +4,7 @@ ghost use Rattle.rs_router.specs.Passes.{IsNewPass};
 
 mod counting;
 mod refusing;
+mod relaying;
 mod turns;
 mod workers;
 

@@ -2,12 +2,13 @@ ghost use Rattle.std.specs.Prelude.{◌≡◌, ◌<◌, IfOk, MatchResult};
 ghost use Rattle.rs_mailbox.specs.Stations.{handled_of, mailbox_name, view, IsCalm, IsStationOf, IsTurnOf};
 ghost use Rattle.rs_router.specs.Lists.{Rose, SameBag, StartsWith};
 ghost use Rattle.rs_poll.specs.Answers.{OnAgain, OnTurned};
-ghost use Rattle.rs_poll.specs.Visits.{Abandons, Comes, GivesBack, GivesUp, Quits, Settles, Visits};
+ghost use Rattle.rs_poll.specs.Visits.{Abandons, Comes, GivesBack, GivesUp, Handles, Quits, Settles, Visits};
 
 use crate::given::Given;
 use crate::handler::{Handler, More};
 use crate::handling::work;
 use crate::worked::Visited;
+use crate::worker::Worker;
 use rs_base::Gate;
 use rs_key::NoMemory;
 use rs_mailbox::{Mailbox, Released, Station, Taken, Ticket, Turn};
@@ -45,7 +46,7 @@ fn give_back<F: Fsm>(
     ensures station { IsStationOf F.name mailbox.now station.new }
     ensures calm { IsCalm station.new }
     ensures ticket { OnAgain result (λ t. t.address ≡ mailbox.now.address) }
-    ensures steps { GivesBack (handled_of turn) result (view station.old).deeds (view station.new).deeds }
+    ensures steps { GivesBack more (handled_of turn) result (view station.old).deeds (view station.new).deeds }
 {
     match more {
         More::Yes => come_again(mailbox, station, turn),
@@ -81,7 +82,7 @@ fn settle<R: Wait, F: Fsm, S: Scheduler>(
     ensures pushed { StartsWith (S.pushed pass.new) (S.pushed pass.old) }
     ensures popped { SameBag (S.popped pass.old) (S.popped pass.new) }
     ensures empties { S.empties pass.new ≡ S.empties pass.old }
-    ensures steps { MatchResult result (λ v. Settles (handled_of turn) mailbox.now.address v (S.pushed pass.old) (S.pushed pass.new) (view station.old).deeds (view station.new).deeds) (λ _. Abandons (handled_of turn) (view station.old).deeds (view station.new).deeds) }
+    ensures steps { MatchResult result (λ v. Settles more (handled_of turn) mailbox.now.address v (S.pushed pass.old) (S.pushed pass.new) (view station.old).deeds (view station.new).deeds) (λ _. Abandons (handled_of turn) (view station.old).deeds (view station.new).deeds) }
 {
     match give_back(mailbox, station, turn, more) {
         Given::Home => Ok(Visited::Turned),
@@ -117,40 +118,43 @@ pub(crate) fn visit<R: Wait, G: Gate, F: Fsm, S: Scheduler, H: Handler<F, S>>(
     scheduler: &S,
     mailbox: &Mailbox<F>,
     station: &mut Station<F>,
-    pass: &mut S::Pass,
-    handler: &mut H,
-    out: &mut H::Out,
-    worker: u32,
-    batch: u32,
+    worker: &mut Worker<F, S, H>,
     ticket: Ticket,
 ) -> Result<Visited, NoMemory>
     requires station { IsStationOf F.name mailbox.now station.old }
     requires calm { IsCalm station.old }
-    requires name { mailbox_name F.name mailbox.now ≡ H.name handler.old }
-    requires pass { S.id scheduler.now ≡ S.pass_id pass.old }
+    requires name { mailbox_name F.name mailbox.now ≡ H.name worker.old.handler }
+    requires pass { S.id scheduler.now ≡ S.pass_id worker.old.pass }
     requires ticket { ticket.address ≡ mailbox.now.address }
     requires below { mailbox.now.address < S.size scheduler.now }
-    requires out { H.fits handler.old out.old }
     ensures station { IsStationOf F.name mailbox.now station.new }
     ensures calm { IsCalm station.new }
-    ensures pass { S.id scheduler.now ≡ S.pass_id pass.new }
-    ensures name { H.name handler.new ≡ H.name handler.old }
-    ensures count { H.count handler.new ≡ H.count handler.old }
-    ensures out { H.fits handler.new out.new }
-    ensures advances { IfOk result (λ v. OnTurned v (Rose (H.advances handler.old) (H.advances handler.new))) }
-    ensures pushed { StartsWith (S.pushed pass.new) (S.pushed pass.old) }
-    ensures popped { SameBag (S.popped pass.old) (S.popped pass.new) }
-    ensures empties { S.empties pass.new ≡ S.empties pass.old }
-    ensures steps { MatchResult result (λ v. Visits batch mailbox.now.address v (S.pushed pass.old) (S.pushed pass.new) (view station.old).deeds (view station.new).deeds) (λ _. GivesUp batch (view station.old).deeds (view station.new).deeds) }
+    ensures pass { S.id scheduler.now ≡ S.pass_id worker.new.pass }
+    ensures name { H.name worker.new.handler ≡ H.name worker.old.handler }
+    ensures count { H.count worker.new.handler ≡ H.count worker.old.handler }
+    ensures numbers { (worker.new.number ≡ worker.old.number) × (worker.new.batch ≡ worker.old.batch) }
+    ensures advances { IfOk result (λ v. OnTurned v (Rose (H.advances worker.old.handler) (H.advances worker.new.handler))) }
+    ensures pushed { StartsWith (S.pushed worker.new.pass) (S.pushed worker.old.pass) }
+    ensures popped { SameBag (S.popped worker.old.pass) (S.popped worker.new.pass) }
+    ensures empties { S.empties worker.new.pass ≡ S.empties worker.old.pass }
+    ensures steps { MatchResult result (λ v. Visits (Handles worker.old.batch (H.handles worker.old.handler) (H.handles worker.new.handler)) (H.asked worker.new.handler) mailbox.now.address v (S.pushed worker.old.pass) (S.pushed worker.new.pass) (view station.old).deeds (view station.new).deeds) (λ _. GivesUp worker.old.batch (view station.old).deeds (view station.new).deeds) }
 {
     let address = ticket.address();
     let mut turn = match mailbox.take(station, ticket) {
         Taken::Machine(turn) => turn,
         Taken::Not(_word) => return Ok(Visited::Gone),
     };
-    gate.pass(rt, worker, address);
-    match work(rt, mailbox, station, &mut turn, handler, out, batch) {
-        Ok(more) => settle(rt, scheduler, mailbox, station, pass, turn, more),
+    gate.pass(rt, worker.number, address);
+    match work(rt, mailbox, station, &mut turn, worker) {
+        Ok(more) => settle(
+            rt,
+            scheduler,
+            mailbox,
+            station,
+            &mut worker.pass,
+            turn,
+            more,
+        ),
         Err(NoMemory) => {
             give_up(mailbox, station, turn);
             Err(NoMemory)

@@ -12,7 +12,9 @@ use std::sync::atomic::{AtomicU64, Ordering};
 pub struct Counting<'a> {
     pub seen: &'a AtomicU64,
     pub mailboxes: u32,
+    pub handles: u64,
     pub advances: u64,
+    pub asked: More,
     /// How many messages the machine had handled when it last advanced.
     pub before_advance: u64,
     pub again: bool,
@@ -27,7 +29,11 @@ impl<'a, S: Scheduler> Handler<Tally, S> for Counting<'a> {
 
     ghost count = { λ h. h.mailboxes };
 
+    ghost handles = { λ h. h.handles };
+
     ghost advances = { λ h. h.advances };
+
+    ghost asked = { λ h. h.asked };
 
     ghost fits = { λ h o. Unit {0} };
 
@@ -41,6 +47,7 @@ impl<'a, S: Scheduler> Handler<Tally, S> for Counting<'a> {
     ) -> Result<(), NoMemory> {
         machine.messages = machine.messages.saturating_add(1);
         machine.total = machine.total.saturating_add(message.number);
+        self.handles = self.handles.saturating_add(1);
         self.seen.fetch_add(1, Ordering::SeqCst);
         Ok(())
     }
@@ -53,10 +60,8 @@ impl<'a, S: Scheduler> Handler<Tally, S> for Counting<'a> {
     ) -> Result<More, NoMemory> {
         self.advances = self.advances.saturating_add(1);
         self.before_advance = machine.messages;
-        if self.again {
-            return Ok(More::Yes);
-        }
-        Ok(More::No)
+        self.asked = if self.again { More::Yes } else { More::No };
+        Ok(self.asked)
     }
 
     fn send_out<R: Wait>(

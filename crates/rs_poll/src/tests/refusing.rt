@@ -1,6 +1,6 @@
-use crate::Poller;
 use crate::tests::counting::Counting;
 use crate::tests::{Tally, next_desks, next_pass, tell};
+use crate::{More, Poller};
 use rs_base::OpenGate;
 use rs_key::{NoMemory, Rows};
 use rs_mailbox::Ticket;
@@ -129,7 +129,9 @@ fn a_machine_whose_ticket_is_refused_is_closed(rt: HostRuntime) -> Result<(), Fa
     let handler = Counting {
         seen: &seen,
         mailboxes: 1,
+        handles: 0,
         advances: 0,
+        asked: More::No,
         before_advance: 0,
         again: true,
     };

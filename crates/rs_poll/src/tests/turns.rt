@@ -1,6 +1,6 @@
 use crate::tests::counting::Counting;
 use crate::tests::{Tally, next_desks, next_pass, tell};
-use crate::{Poller, Worked};
+use crate::{More, Poller, Worked};
 use rs_base::OpenGate;
 use rs_key::Rows;
 use rs_router::{QueueScheduler, Router};
@@ -33,7 +33,9 @@ fn a_turn_handles_a_batch_and_then_there_is_nothing(rt: HostRuntime) -> Result<(
     let handler = Counting {
         seen: &seen,
         mailboxes: 1,
+        handles: 0,
         advances: 0,
+        asked: More::No,
         before_advance: 0,
         again: false,
     };
@@ -42,7 +44,8 @@ fn a_turn_handles_a_batch_and_then_there_is_nothing(rt: HostRuntime) -> Result<(
     assert!(rt; tell(&rt, &router, &mut my_desks, &mut mine, 0, 4).is_ok());
     assert!(rt; tell(&rt, &router, &mut my_desks, &mut mine, 0, 5).is_ok());
     assert!(rt; matches!(poller.poll_once(&rt, &OpenGate), Ok(Worked::Turned(0))));
-    assert!(rt; poller.handler.advances == 1 && poller.handler.before_advance == 2);
+    assert!(rt; poller.worker.handler.advances == 1 && poller.worker.handler.before_advance == 2);
+    assert!(rt; poller.worker.handler.handles == 2);
     assert!(rt; matches!(poller.poll_once(&rt, &OpenGate), Ok(Worked::Turned(0))));
     assert!(rt; matches!(poller.poll_once(&rt, &OpenGate), Ok(Worked::Nothing)));
     assert!(rt; *poller.out() == ());

@@ -4,7 +4,7 @@ ghost use Rattle.rs_router.specs.Passes.{IsNewPass};
 
 use crate::tests::counting::Counting;
 use crate::tests::{Tally, next_desks, next_pass, tell};
-use crate::{Poller, Stop};
+use crate::{More, Poller, Stop, Worker};
 use once_cell::race::OnceBox;
 use rs_base::OpenGate;
 use rs_key::{NoMemory, Rows};
@@ -22,7 +22,7 @@ const MAILBOXES: u32 = 100;
 
 const MESSAGES: u64 = 1000;
 
-type Worker<'r, 'a> = Poller<'r, Tally, QueueScheduler, Counting<'a>>;
+type CountingPoller<'r, 'a> = Poller<'r, Tally, QueueScheduler, Counting<'a>>;
 
 fn machines(alloc: Global, count: u32) -> Result<Rows<Tally>, NoMemory>
     ensures { IfOk result (λ m. length m ≡ count) }
@@ -44,7 +44,7 @@ fn workers<'r, 'a>(
     passes: &mut Rows<SchedulerPass>,
     seen: &'a AtomicU64,
     count: u32,
-) -> Result<Vec<Worker<'r, 'a>>, NoMemory>
+) -> Result<Vec<CountingPoller<'r, 'a>>, NoMemory>
     requires desks { All (λ d. AreDesksOf ⟦<Tally as Named>⟧.name router.now.mailboxes.items d.stations.items) desks.old }
     requires calm { All (λ d. AllCalm d.stations.items) desks.old }
     requires passes { All (IsNewPass router.now.scheduler.queue router.now.scheduler.addresses) passes.old }
@@ -60,7 +60,9 @@ fn workers<'r, 'a>(
         let handler = Counting {
             seen,
             mailboxes: router.count(),
+            handles: 0,
             advances: 0,
+            asked: More::No,
             before_advance: 0,
             again: false,
         };
@@ -69,27 +71,46 @@ fn workers<'r, 'a>(
     Ok(list)
 }
 
-fn work<'r, 'a, R: Wait>(rt: &R, stop: &OnceBox<Stop>, worker: Worker<'r, 'a>) {
+fn work<'r, 'a, R: Wait>(rt: &R, stop: &OnceBox<Stop>, worker: CountingPoller<'r, 'a>) {
     let mut worker = worker;
     let mut note = stop.note();
     let _ended = worker.serve(rt, &OpenGate, stop, &mut note);
 }
 
-fn tell_one<'r, 'a, R: Wait>(rt: &R, sender: &mut Worker<'r, 'a>, number: u64) -> bool {
+fn tell_one<'r, 'a, R: Wait>(rt: &R, sender: &mut CountingPoller<'r, 'a>, number: u64) -> bool {
     let count = sender.router.count();
     if count == 0 {
         return false;
     }
     let address = (number % u64::from(count)) as u32;
-    tell(
+    tell_by(
         rt,
         sender.router,
         &mut sender.desks,
-        &mut sender.pass,
+        &mut sender.worker,
         address,
         number,
     )
-    .is_ok()
+}
+
+fn tell_by<'a, R: Wait>(
+    rt: &R,
+    router: &Router<Tally, QueueScheduler>,
+    desks: &mut Desks<Tally>,
+    worker: &mut Worker<Tally, QueueScheduler, Counting<'a>>,
+    address: u32,
+    number: u64,
+) -> bool
+    requires below { address < length router.now.mailboxes.items }
+    requires desks { AreDesksOf ⟦<Tally as Named>⟧.name router.now.mailboxes.items desks.old.stations.items }
+    requires calm { AllCalm desks.old.stations.items }
+    requires pass { ⟦<QueueScheduler as Scheduler>⟧.id router.now.scheduler ≡ ⟦<QueueScheduler as Scheduler>⟧.pass_id worker.old.pass }
+    ensures desks { AreDesksOf ⟦<Tally as Named>⟧.name router.now.mailboxes.items desks.new.stations.items }
+    ensures calm { AllCalm desks.new.stations.items }
+    ensures pass { ⟦<QueueScheduler as Scheduler>⟧.id router.now.scheduler ≡ ⟦<QueueScheduler as Scheduler>⟧.pass_id worker.new.pass }
+    ensures handler { worker.new.handler ≡ worker.old.handler }
+{
+    tell(rt, router, desks, &mut worker.pass, address, number).is_ok()
 }
 
 fn wait_for_all<R: Wait>(rt: &R, seen: &AtomicU64) {
@@ -106,10 +127,10 @@ fn run<'r, 'a, R: Threads + Wait + Sync>(
     stop: &OnceBox<Stop>,
     reason: Box<Stop>,
     seen: &AtomicU64,
-    workers: Vec<Worker<'r, 'a>>,
-    sender: Worker<'r, 'a>,
-) -> Worker<'r, 'a> {
-    thread::scope(thread::scope_env(), rt, |scope| -> Worker {
+    workers: Vec<CountingPoller<'r, 'a>>,
+    sender: CountingPoller<'r, 'a>,
+) -> CountingPoller<'r, 'a> {
+    thread::scope(thread::scope_env(), rt, |scope| -> CountingPoller {
         for worker in workers {
             if let Err(refused) = scope.spawn(move || work(rt, stop, worker)) {
                 drop(refused);
@@ -126,7 +147,7 @@ fn run<'r, 'a, R: Threads + Wait + Sync>(
     })
 }
 
-fn close_one<'r, 'a>(sender: &mut Worker<'r, 'a>, address: u32) -> Option<Tally> {
+fn close_one<'r, 'a>(sender: &mut CountingPoller<'r, 'a>, address: u32) -> Option<Tally> {
     if address >= sender.router.count() {
         return None;
     }

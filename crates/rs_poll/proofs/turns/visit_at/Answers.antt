@@ -1,6 +1,7 @@
 use Rattle.std.proofs.Common.{◌<◌, ℕ, length, sym, subst, rules}
 use Rattle.rs_mailbox.specs.Stations.{IsStationOf, view}
 use Rattle.rs_router.proofs.Places.{paired_set}
+use Rattle.rs_poll.specs.Visits.{Handles}
 use Rattle.rs_poll.proofs.Lifts.{visited_at}
 use Rattle.rs_poll.proofs.turns.visit_at.Goals as goal
 
@@ -13,5 +14,5 @@ pub returns-clause-steps : goal.returns-clause-steps
 returns-clause-steps g c =
     let below : c.address-address.result < length c.args.router.now.mailboxes.items = search rules in
     let within = subst (λ (n : ℕ). c.address-address.result < n) (sym c.requires.desks.0) below in
-    visited_at (λ s. (view s).deeds) c.args.batch (g.S.Scheduler.pushed c.args.pass.now) (g.S.Scheduler.pushed c.visit.new.pass) c.args.desks.now.stations.items c.address-address.result c.index_mut-station.result.now c.visit.new.station within c.index_mut-station.ensures.value
+    visited_at (λ s. (view s).deeds) c.args.worker.now.batch (Handles c.args.worker.now.batch (g.H.Handler.handles c.args.worker.now.handler) (g.H.Handler.handles c.visit.new.worker.handler)) (g.H.Handler.asked c.visit.new.worker.handler) (g.S.Scheduler.pushed c.args.worker.now.pass) (g.S.Scheduler.pushed c.visit.new.worker.pass) c.args.desks.now.stations.items c.address-address.result c.index_mut-station.result.now c.visit.new.station within c.index_mut-station.ensures.value
     c.mailbox-mailbox.result.now.address c.args.ticket.address c.mailbox-mailbox.ensures.address c.address-address.ensures c.visit.result c.visit.ensures.steps
