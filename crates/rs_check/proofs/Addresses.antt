@@ -24,7 +24,7 @@ use Rattle.rs_check.proofs.StoreEnds.{Ending, ending}
 
 -- ---- stores by id
 
-line_of_store : (stores : List Store) (id region index : ℕ) (s : Store) → find (λ t. t.id == id) stores ≡ Some s → line_in id region index stores ≡ entry_in s region index
+pub line_of_store : (stores : List Store) (id region index : ℕ) (s : Store) → find (λ t. t.id == id) stores ≡ Some s → line_in id region index stores ≡ entry_in s region index
 line_of_store [] id region index s h = absurd cc
 line_of_store (x ∷ xs) id region index s h = go (x.id == id) h (line_of_store xs id region index s) where
   go : (b : Bool) → (if b then Some x else find (λ t. t.id == id) xs) ≡ Some s → (find (λ t. t.id == id) xs ≡ Some s → line_in id region index xs ≡ entry_in s region index)

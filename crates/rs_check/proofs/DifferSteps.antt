@@ -93,6 +93,11 @@ slice_here [] i x h e = absurd (omega arith)
 slice_here (y ∷ ys) zero x h e = ap (λ z. Some z) (sym e)
 slice_here (y ∷ ys) (suc i) x h e = slice_here ys i x (omega arith) e
 
+-- the first i statements are placed: each is found about what it says first
+pub record Placed (all : List Stated) (f : Places) (i : ℕ) : Type 0 where
+  pub places : (r x : ℕ) → at_place all (f r x) ≡ find (is_about r x) (take i all)
+  pub below : (r x k : ℕ) → f r x ≡ Some k → k < i
+
 pub placed_below : (f : Places) (region index place : ℕ) → ((r x k : ℕ) → f r x ≡ Some k → k < place) → (r x k : ℕ) → with_place f region index place r x ≡ Some k → k < place + 1
 placed_below f region index place below r x k h = go ((region == r) && (index == x)) h where
   go : (b : Bool) → (if b then Some place else f r x) ≡ Some k → k < place + 1

@@ -21,7 +21,7 @@ use Rattle.rs_value.proofs.Traces.{step_traces}
 use Rattle.rs_check.specs.Lines.{carried_at, carried_by, carried_in, entry_in}
 use Rattle.rs_check.proofs.Finding.{find_some}
 
-in_entries : (region index : ℕ) (y : Entry) (c : Carried) (es : List Entry) → IsAmong y es → carried_by region index y.body ≡ Some c → (d : Carried) × (carried_in region index es ≡ Some d)
+pub in_entries : (region index : ℕ) (y : Entry) (c : Carried) (es : List Entry) → IsAmong y es → carried_by region index y.body ≡ Some c → (d : Carried) × (carried_in region index es ≡ Some d)
 in_entries region index y c [] i h = absurd i
 in_entries region index y c (e ∷ es) i h = go (carried_by region index e.body) refl i (in_entries region index y c es) where
   go : (o : Option Carried) → carried_by region index e.body ≡ o → IsAmong y (e ∷ es)
@@ -31,7 +31,7 @@ in_entries region index y c (e ∷ es) i h = go (carried_by region index e.body)
   go None k (inl p) rest = absurd (cc (sym (ap (λ (z : Entry). carried_by region index z.body) p ∙ k) ∙ h))
   go None k (inr j) rest = rest j h
 
-in_logs : (region index : ℕ) (log : Log) (c : Carried) (logs : List Log) → IsAmong log logs → carried_in region index log.entries ≡ Some c → (d : Carried) × (carried_at region index logs ≡ Some d)
+pub in_logs : (region index : ℕ) (log : Log) (c : Carried) (logs : List Log) → IsAmong log logs → carried_in region index log.entries ≡ Some c → (d : Carried) × (carried_at region index logs ≡ Some d)
 in_logs region index log c [] i h = absurd i
 in_logs region index log c (l ∷ ls) i h = go (carried_in region index l.entries) refl i (in_logs region index log c ls) where
   go : (o : Option Carried) → carried_in region index l.entries ≡ o → IsAmong log (l ∷ ls)

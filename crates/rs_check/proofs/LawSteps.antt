@@ -1,5 +1,5 @@
 -- Steps of the passes for overlapping ranges and for ids that are reused.
-use Rattle.std.proofs.Common.{◌≡◌, ℕ, ◌+◌, ◌<◌, suc, zero, refl, sym, ap, ◌∙◌, List, [], ◌∷◌, ◌++◌, length, get_or, drop, take, arith}
+use Rattle.std.proofs.Common.{◌≡◌, ℕ, ◌+◌, ◌<◌, refl, sym, ap, ◌∙◌, List, [], ◌∷◌, ◌++◌, length, get_or, drop, take}
 use Rattle.std.specs.Prelude.{Bool, true, false, Option, Some, None, ◌&&◌, ◌||◌, ◌==◌, not, if◌then◌else◌, map}
 use Rattle.std.specs.List.{flat_map, list_any}
 use Rattle.std.proofs.lemmas.Bool.{eqb-true, eq-eqb}
@@ -12,6 +12,7 @@ use Rattle.rs_check.specs.Statements.{Stated}
 use Rattle.rs_check.specs.Laws.{least, lesser, is_id, Named, is_named, is_reused, reused_id, naming, names_in, reused_in, first_reused}
 use Rattle.rs_check.specs.Namings.{Namings, with_naming, with_namings, is_other, is_there, is_reused_at, reused_by}
 use Rattle.rs_order.proofs.Folds.{drop_here}
+use Rattle.rs_order.proofs.Loops.{take_here}
 
 pub least_more : (best : Option (Boot × Boot)) (xs ys : List (Boot × Boot)) → least best (xs ++ ys) ≡ least (least best xs) ys
 least_more best [] ys = refl
@@ -20,14 +21,6 @@ least_more best (x ∷ xs) ys = least_more (Some (lesser best x)) xs ys
 pub put_next : (f : Namings) (region index : ℕ) (ids : List ℕ) (i x : ℕ) → i < length ids → x ≡ get_or ids i x
     → with_namings f region index (drop i ids) ≡ with_namings (with_naming f x region index) region index (drop (i + 1) ids)
 put_next f region index ids i x h e = ap (with_namings f region index) (drop_here ids i x h e)
-
-take_suc : {A : Type 0} (xs : List A) (i : ℕ) (x : A) → i < length xs → x ≡ get_or xs i x → take (suc i) xs ≡ take i xs ++ x ∷ []
-take_suc [] i x h e = absurd (omega arith)
-take_suc (y ∷ ys) zero x h e = ap (λ z. z ∷ []) (sym e)
-take_suc (y ∷ ys) (suc i) x h e = ap (λ zs. y ∷ zs) (take_suc ys i x (omega arith) e)
-
-pub take_here : {A : Type 0} (xs : List A) (i : ℕ) (x : A) → i < length xs → x ≡ get_or xs i x → take (i + 1) xs ≡ take i xs ++ x ∷ []
-take_here xs i x h e = let one : i + 1 ≡ suc i = omega arith in ap (λ n. take n xs) one ∙ take_suc xs i x h e
 
 or_true : (a : Bool) → (a || true) ≡ true
 or_true true = refl
@@ -152,10 +145,9 @@ pub reused_next : (f g : Namings) (region index : ℕ) (ids : List ℕ) (i x : �
     → is_reused_at f g region index (take i ids) x ≡ false
     → reused_by f g region index (take i ids) (drop i ids) ≡ reused_by f g region index (take (i + 1) ids) (drop (i + 1) ids)
 reused_next f g region index ids i x h e free =
-    let one : suc i ≡ i + 1 = omega arith in
     ap (reused_by f g region index (take i ids)) (drop_here ids i x h e)
     ∙ (if_no (is_reused_at f g region index (take i ids) x) (Some x) (reused_by f g region index (take i ids ++ x ∷ []) (drop (i + 1) ids)) free
-    ∙ ap (λ zs. reused_by f g region index zs (drop (i + 1) ids)) (sym (take_suc ids i x h e) ∙ ap (λ n. take n ids) one))
+    ∙ ap (λ zs. reused_by f g region index zs (drop (i + 1) ids)) (sym (take_here ids i x h e)))
 
 -- what the code keeps tells what the lists tell
 

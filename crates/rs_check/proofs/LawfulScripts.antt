@@ -17,12 +17,12 @@ use Rattle.rs_check.proofs.Beginning.{begins_of}
 use Rattle.rs_check.proofs.ScriptLines.{line_told}
 
 -- no statement of the input breaks a law
-record FaultFree (input : Input) : Type 0 where
+pub record FaultFree (input : Input) : Type 0 where
   pub differ : first_differ [] (stated input) ≡ None
   pub overlap : first_overlap (boots input) ≡ None
   pub reused : reused_law input ≡ None
 
-fault_free : (input : Input) → check input ≡ None → FaultFree input
+pub fault_free : (input : Input) → check input ≡ None → FaultFree input
 unfolding check
 fault_free input lawful =
     let a = both_none (differ_law input) (first_some (overlap_law input) (first_some (reused_law input) (first_in_stores input.stores))) lawful in

@@ -5,6 +5,8 @@ pub mod BirthLaws
 pub mod DifferSteps
 pub mod EntryLines
 pub mod Finding
+pub mod Forming
+pub mod HomeLines
 pub mod LawSteps
 pub mod LawfulPlans
 pub mod LawfulScripts

@@ -10,8 +10,9 @@ use Rattle.rs_order.specs.declared.regions.Made.{Made}
 use Rattle.rs_order.specs.Stores.{ByRegion, Stepped, Went, Broke, ids_of, last}
 use Rattle.rs_order.specs.Runs.{forget, Moved}
 use Rattle.rs_check.specs.Plans.{row_of, rows_in, rows_at, rows_by, store_rows}
+use Rattle.rs_order.proofs.Loops.{take_here}
 use Rattle.rs_order.proofs.Rising.{get_or_any}
-use Rattle.rs_check.proofs.LawSteps.{take_here, nil_right}
+use Rattle.rs_check.proofs.LawSteps.{nil_right}
 
 pub rows_end : (store : Store) (s : Stepped) → rows_at store s ≡ rows_by store (forget s)
 rows_end store (Broke fault) = refl

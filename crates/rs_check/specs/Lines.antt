@@ -1,5 +1,5 @@
 -- The entry that a region of a store applies at an index.
-use Rattle.std.specs.Prelude.{ℕ, ◌-◌, ◌==◌, List, [], ◌∷◌, Option, None, if◌then◌else◌}
+use Rattle.std.specs.Prelude.{◌≡◌, ℕ, ◌-◌, ◌==◌, ◌⊎◌, List, [], ◌∷◌, Option, Some, None, if◌then◌else◌}
 use Rattle.std.specs.List.{find}
 use Rattle.rs_entry.specs.declared.entry.Body.{Body}
 use Rattle.rs_entry.specs.declared.entry.Body.TheVariants as body
@@ -8,7 +8,9 @@ use Rattle.rs_entry.specs.declared.entry.Entry.{Entry}
 use Rattle.rs_entry.specs.declared.input.Log.{Log}
 use Rattle.rs_entry.specs.declared.input.Store.{Store}
 use Rattle.rs_entry.specs.declared.input.Input.{Input}
+use Rattle.rs_entry.specs.Entries.{entry_of}
 use Rattle.rs_order.specs.Stores.{first_some, own, own_next, entry_at}
+use Rattle.rs_value.specs.Counting.{IsAmong}
 
 abbrev pub carried_by : ℕ → ℕ → Body → Option Carried
 carried_by region index (body.Commit source commit carried) = if source == region then find (λ c. c.index == index) carried else None
@@ -21,6 +23,34 @@ carried_in region index (e ∷ es) = first_some (carried_by region index e.body)
 abbrev pub carried_at : ℕ → ℕ → List Log → Option Carried
 carried_at region index [] = None
 carried_at region index (log ∷ logs) = first_some (carried_in region index log.entries) (carried_at region index logs)
+
+-- ---- where entries stand
+
+-- a log of the store is the region's, and has the entry at the index
+pub record Owns (store : Store) (region index : ℕ) (e : Entry) : Type 0 where
+  pub log : Log
+  pub among : IsAmong log store.logs
+  pub of_region : log.region ≡ region
+  pub at : own_next log.entries (index - 1) ≡ Some e
+
+-- the body is a commit of the region that carries this at the index
+abbrev pub CarriesIn : Body → ℕ → ℕ → Carried → Type 0
+CarriesIn (body.Commit source commit carried) region index c = (source ≡ region) × IsAmong c carried × (c.index ≡ index)
+CarriesIn b region index c = ⊥
+
+-- a log of the store has such a commit
+pub record Carries (store : Store) (region index : ℕ) (c : Carried) : Type 0 where
+  pub log : Log
+  pub by : Entry
+  pub among : IsAmong log store.logs
+  pub by_among : IsAmong by log.entries
+  pub in_body : CarriesIn by.body region index c
+
+-- the store's logs have the entry for the region at the index, its own or a carried one
+abbrev pub HasEntry : Store → ℕ → ℕ → Entry → Type 0
+HasEntry store region index e = Owns store region index e ⊎ ((c : Carried) × Carries store region index c × (entry_of c ≡ e))
+
+-- ---- the entry at an index
 
 -- the own entry, else the first that a commit of the store's logs carries
 abbrev pub entry_in : Store → ℕ → ℕ → Option Entry

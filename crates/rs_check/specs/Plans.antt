@@ -1,6 +1,6 @@
 -- What a plan tells of an input.
-use Rattle.std.specs.Prelude.{ℕ, slice_get, position, ◌==◌, ◌&&◌, ◌≡◌, Bool, length, List, [], Option, Some, None}
-use Rattle.std.specs.List.{flat_map, filter_map}
+use Rattle.std.specs.Prelude.{ℕ, slice_get, position, ◌==◌, ltb, ◌&&◌, ◌||◌, ◌≡◌, Bool, true, length, List, [], ◌∷◌, Option, Some, None}
+use Rattle.std.specs.List.{AllByRecursion, flat_map, filter_map}
 use Rattle.rs_entry.specs.declared.input.Input.{Input}
 use Rattle.rs_entry.specs.declared.input.Store.{Store}
 use Rattle.rs_order.specs.declared.regions.Made.{Made}
@@ -51,6 +51,15 @@ rows_of input = flat_map store_rows input.stores
 
 abbrev pub is_at : ℕ → ℕ → Row → Bool
 is_at store region r = (r.store == store) && (r.region == region)
+
+-- an earlier store's, or on the store a lower region's
+abbrev pub is_before : ℕ → ℕ → Row → Bool
+is_before store region r = ltb r.store store || ((r.store == store) && ltb r.region region)
+
+-- each row stands before those that follow it
+abbrev pub AreOrdered : List Row → Type 0
+AreOrdered [] = Unit {0}
+AreOrdered (x ∷ xs) = AllByRecursion (λ y. is_before y.store y.region x ≡ true) xs × AreOrdered xs
 
 -- ---- what the rows tell, by address
 

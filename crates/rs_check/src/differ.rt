@@ -66,6 +66,7 @@ fn first_differ(alloc: Global, all: &[Said<'_>]) -> Result<Option<Differing>, No
     let mut firsts = PlaceMap::new(alloc);
     for place in 0..all.len() {
         let said = &all[place];
+        firsts.turn_to(said.region)?;
         match firsts.get(said.region, said.index) {
             None => {
                 firsts.put(said.region, said.index, place)?;

@@ -7,6 +7,7 @@
 
 mod checks;
 mod differ;
+mod homes;
 mod lines;
 mod overlap;
 mod plan;

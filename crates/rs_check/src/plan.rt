@@ -1,15 +1,16 @@
 ghost use Rattle.std.specs.Prelude.{◌≡◌, ℕ, ◌+◌, ◌-◌, ◌<◌, ◌≤◌, ◌^◌, Option, Some, None, length, slice_get, IfOk, IfSome, position};
-ghost use Rattle.std.specs.Option.{option_map};
+ghost use Rattle.std.specs.Option.{option_copied, option_map};
 ghost use Rattle.rs_entry.specs.WellFormed.{WellFormed};
-ghost use Rattle.rs_order.specs.Runs.{line_entry};
+ghost use Rattle.rs_order.specs.Runs.{IsFormed, line_entry};
 ghost use Rattle.rs_check.specs.Laws.{check};
 ghost use Rattle.rs_check.specs.Lawfulness.{PlanLaws, StoresAgree};
 ghost use Rattle.rs_check.specs.Lines.{line_at};
 ghost use Rattle.rs_check.specs.Plans.{rows_of, is_at, stop_of, own_of, ends_of, maker_of, address_of, reshapings_of, made_by};
 
+use crate::homes::{Home, homes_of, line_near};
 use crate::lines::line_of;
-use crate::rows::Row;
-use rs_entry::{Input, Mode};
+use crate::rows::{Row, place_of};
+use rs_entry::{Input, Mode, Store};
 use rs_key::NoMemory;
 use rs_order::{Line, Origin};
 use std::marker::Model;
@@ -30,6 +31,8 @@ pub enum Maker {
 pub struct Plan {
     input: Input,
     rows: Vec<Row>,
+    /// By address.
+    homes: Vec<Home>,
 }
 
 impl Model for Plan {
@@ -57,7 +60,8 @@ impl Plan {
         if rows.len() > u32::MAX as usize {
             return Err(NoMemory);
         }
-        Ok(Plan { input, rows })
+        let homes = homes_of(input.stores.allocator(), &input, rows.as_slice())?;
+        Ok(Plan { input, rows, homes })
     }
 
     pub fn input(&self) -> &Input
@@ -91,7 +95,7 @@ impl Plan {
         self.rows.len() as u32
     }
 
-    /// The address of the region on the store. None exactly where the region is never made there.
+    /// The address of the region on the store, found by search. None exactly where the region is never made there.
     pub fn find(&self, store: u64, region: u64) -> Option<u32>
         ensures { result ≡ position (is_at store region) (rows_of self.now) }
     {
@@ -157,8 +161,39 @@ impl Plan {
     }
 
     /// The region's entry at the index: that of the store's own log, else the first that one of its commits carries.
-    #[tactic(auto, using(crate::proofs::Wellness::rising_logs))]
     pub fn entry(&self, a: u32, index: u64) -> Option<Line<'_>>
+        requires address { a < length (rows_of self.now) }
+        requires index { 6 ≤ index }
+        ensures entry { option_map line_entry result ≡ line_at self.now (address_of self.now a) index }
+        ensures formed { IfSome result (λ line. IsFormed (line_entry line).body) }
+    {
+        let _ = &self.input;
+        match self.entry_near(a, index) {
+            Some(line) => Some(line),
+            None => self.entry_anywhere(a, index),
+        }
+    }
+
+    /// The entry, where it stands at the region's home.
+    fn entry_near(&self, a: u32, index: u64) -> Option<Line<'_>>
+        requires address { a < length (rows_of self.now) }
+        requires index { 6 ≤ index }
+        ensures { IfSome result (λ line. line_at self.now (address_of self.now a) index ≡ Some (line_entry line)) }
+    {
+        let (id, region) = self.address(a);
+        let home = self.homes.get(a as usize)?;
+        let Some(store) = store_at(&self.input, home.store) else {
+            return None;
+        };
+        if store.id != id {
+            return None;
+        }
+        line_near(store, home, region, index)
+    }
+
+    /// The entry, looked for in all logs of the region's store.
+    #[tactic(auto, using(crate::proofs::Wellness::rising_logs))]
+    fn entry_anywhere(&self, a: u32, index: u64) -> Option<Line<'_>>
         requires address { a < length (rows_of self.now) }
         requires index { 6 ≤ index }
         ensures { option_map line_entry result ≡ line_at self.now (address_of self.now a) index }
@@ -186,11 +221,8 @@ impl Plan {
     }
 }
 
-#[tactic(auto, using(crate::proofs::PlanLaws::position_within))]
-fn place_of(rows: &[Row], store: u64, region: u64) -> Option<usize>
-    ensures place { result ≡ position (is_at store region) rows.now }
-    ensures within { IfSome result (λ place. place < length rows.now) }
+fn store_at(input: &Input, place: usize) -> Option<&Store>
+    ensures { option_copied result ≡ slice_get input.now.stores place }
 {
-    rows.iter()
-        .position(|row| row.store == store && row.region == region)
+    input.stores.as_slice().get(place)
 }

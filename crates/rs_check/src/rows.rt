@@ -1,6 +1,8 @@
-ghost use Rattle.std.specs.Prelude.{◌≡◌, [], ◌∷◌, ◌++◌, Some, IfOk, OnOk};
+ghost use Rattle.std.specs.Prelude.{◌≡◌, ◌<◌, [], ◌∷◌, ◌++◌, Some, true, false, length, position, slice_get, IfOk, IfSome, OnOk};
+ghost use Rattle.std.specs.List.Sorted.{IsPartitionPoint};
+ghost use Rattle.std.specs.Option.{option_copied};
 ghost use Rattle.rs_order.specs.Runs.{seen};
-ghost use Rattle.rs_check.specs.Plans.{row_of, rows_in};
+ghost use Rattle.rs_check.specs.Plans.{AreOrdered, is_at, is_before, row_of, rows_in};
 
 use rs_entry::Mode;
 use rs_key::{NoMemory, Rows, TryClone};
@@ -66,4 +68,46 @@ pub fn add_rows(
         add_row(rows, indexed, *id, regions)?;
     }
     Ok(())
+}
+
+/// The place of the region's row, in rows by store and region.
+pub fn place_of(rows: &[Row], store: u64, region: u64) -> Option<usize>
+    requires { AreOrdered rows.now }
+    ensures place { result ≡ position (is_at store region) rows.now }
+    ensures within { IfSome result (λ place. place < length rows.now) }
+{
+    let place = first_from(rows, store, region);
+    let Some(row) = row_at(rows, place) else {
+        return None;
+    };
+    if !is_at(row, store, region) {
+        return None;
+    }
+    Some(place)
+}
+
+fn row_at(rows: &[Row], place: usize) -> Option<&Row>
+    ensures { option_copied result ≡ slice_get rows.now place }
+{
+    rows.get(place)
+}
+
+fn is_at(row: &Row, store: u64, region: u64) -> bool
+    ensures { result ≡ is_at store region row.now }
+{
+    row.store == store && row.region == region
+}
+
+/// The place of the first row that isn't before the region's.
+fn first_from(rows: &[Row], store: u64, region: u64) -> usize
+    requires { AreOrdered rows.now }
+    ensures { IsPartitionPoint (λ r. is_before store region r ≡ true) (λ r. is_before store region r ≡ false) rows.now result }
+{
+    rows.partition_point(|row| is_before(row, store, region))
+}
+
+fn is_before(row: &Row, store: u64, region: u64) -> bool
+    ensures { result ≡ is_before store region row.now }
+{
+    row.store < store || (row.store == store && row.region < region)
 }

@@ -1,5 +1,5 @@
 -- Who stands before a merge of a source, region by region.
-use Rattle.std.proofs.Common.{◌≡◌, ℕ, zero, suc, ◌+◌, ◌<◌, List, [], ◌∷◌, ◌++◌, length, get_or, take, cond, refl, sym, ap, ◌∙◌, arith}
+use Rattle.std.proofs.Common.{◌≡◌, ℕ, ◌+◌, ◌<◌, List, [], ◌∷◌, ◌++◌, length, get_or, take, cond, refl, sym, ap, ◌∙◌}
 use Rattle.std.specs.Prelude.{Bool, true, false, Option, Some, None, ◌==◌, if◌then◌else◌}
 use mathlib.Core.Path.{fun_ext}
 use Rattle.std.proofs.lemmas.Bool.{eqb-true, eqb-false, eq-eqb, ne_eqb}
@@ -8,6 +8,8 @@ use Rattle.rs_entry.specs.declared.entry.Entry.{Entry}
 use Rattle.rs_entry.specs.declared.input.Store.{Store}
 use Rattle.rs_order.specs.Stores.{Applied, Merge, stands, carried_at, carried_next, first_some}
 use Rattle.rs_order.specs.Carriers.{BySource, with_carrier, is_for, standing_for}
+use Rattle.rs_order.proofs.Loops.{take_here}
+use Rattle.rs_order.proofs.Rising.{get_or_any}
 
 -- what is carried for a source is carried by those that stand before a merge of it
 pub carried_by : (store : Store) (g : Applied) (ids : List ℕ) (source index : ℕ) → carried_next store g (standing_for store g ids source) source index ≡ carried_next store g ids source index
@@ -40,13 +42,6 @@ pub carried_for : (store : Store) (g : Applied) (ids standing : List ℕ) (f : B
 carried_for store g ids standing f source index e h =
     ap (λ (xs : List ℕ). carried_next store g xs source index) (e ∙ ap (λ (k : BySource). k source) h) ∙ carried_by store g ids source index
 
-pub take_one : (xs : List ℕ) (i : ℕ) → i < length xs → take (i + 1) xs ≡ take i xs ++ get_or xs i 0 ∷ []
-take_one [] i h = absurd (omega arith)
-take_one (x ∷ xs) zero h = refl
-take_one (x ∷ xs) (suc i) h =
-    let s : suc i + 1 ≡ suc (i + 1) = omega arith in
-    ap (λ (n : ℕ). take n (x ∷ xs)) s ∙ ap (λ (ys : List ℕ). x ∷ ys) (take_one xs i (omega arith))
-
 nil_right : (xs : List ℕ) → xs ++ [] ≡ xs
 nil_right [] = refl
 nil_right (x ∷ xs) = ap (λ (ys : List ℕ). x ∷ ys) (nil_right xs)
@@ -55,7 +50,7 @@ nil_right (x ∷ xs) = ap (λ (ys : List ℕ). x ∷ ys) (nil_right xs)
 more : (store : Store) (g : Applied) (ids : List ℕ) (i source : ℕ) (b : Bool) → i < length ids → is_for source (stands store g (get_or ids i 0)) ≡ b
     → standing_for store g (take (i + 1) ids) source ≡ standing_for store g (take i ids) source ++ cond b (get_or ids i 0 ∷ []) []
 more store g ids i source b h e =
-    ap (λ (xs : List ℕ). standing_for store g xs source) (take_one ids i h)
+    ap (λ (xs : List ℕ). standing_for store g xs source) (take_here ids i (get_or ids i 0) h (get_or_any ids i 0 (get_or ids i 0) h))
     ∙ (filter-append (λ (t : ℕ). is_for source (stands store g t)) (take i ids) (get_or ids i 0 ∷ [])
     ∙ ap (λ (c : Bool). standing_for store g (take i ids) source ++ cond c (get_or ids i 0 ∷ []) []) e)
 

@@ -172,7 +172,7 @@ ready_made store f id h = go (f id) refl h where
 apart : (f : ByRegion) (id x : ℕ) (t : Made) → (x == id) ≡ false → with_region f id t x ≡ f x
 apart f id x t e = rw e refl
 
-at_it : (f : ByRegion) (id : ℕ) (t : Made) → with_region f id t id ≡ Some t
+pub at_it : (f : ByRegion) (id : ℕ) (t : Made) → with_region f id t id ≡ Some t
 at_it f id t = rw (eq-eqb id id refl) refl
 
 module _ (store : Store) (awaited : Places) (all : HasMerges store awaited) (f h : ByRegion) (id : ℕ) (calm : IsCalm store awaited f id) (ready : is_ready store (bare f) id ≡ true)

@@ -1,9 +1,8 @@
 -- Only a region whose own log has a commit can stand before a merge.
-use Rattle.std.proofs.Common.{◌≡◌, ℕ, zero, suc, ◌+◌, ◌-◌, ◌<◌, List, [], ◌∷◌, ◌++◌, length, get_or, take, cond, refl, ap, ◌∙◌}
+use Rattle.std.proofs.Common.{◌≡◌, ℕ, zero, suc, ◌-◌, List, [], ◌∷◌, cond, refl, ap, ◌∙◌}
 use Rattle.std.specs.Prelude.{Bool, true, false, ◌||◌, Option, Some, None, filter, slice_get}
 use Rattle.std.specs.List.{list_any}
 use mathlib.Core.Path.{fun_ext}
-use Rattle.std.proofs.lemmas.List.Elements.{filter-append}
 use Rattle.rs_entry.specs.declared.entry.Body.{Body}
 use Rattle.rs_entry.specs.declared.entry.Body.TheVariants as body
 use Rattle.rs_entry.specs.declared.entry.Entry.{Entry}
@@ -14,7 +13,6 @@ use Rattle.rs_order.specs.declared.regions.Made.{Made}
 use Rattle.rs_order.specs.Stores.{Applied, Merge, own, ids_of, goes_on, is_accept, merge_in, merge_of, own_next, stands, stands_in}
 use Rattle.rs_order.specs.Carriers.{is_for, standing_for}
 use Rattle.rs_order.specs.Joiners.{commits, has_commit, is_commit, joiners_of}
-use Rattle.rs_order.proofs.CarrierSteps.{take_one}
 
 found_any : (test : Entry → Bool) (es : List Entry) (k : ℕ) (e : Entry) → slice_get es k ≡ Some e → test e ≡ true → list_any test es ≡ true
 found_any test [] k e found passes = absurd cc
@@ -79,11 +77,3 @@ filter_within p q within (x ∷ xs) = go (q x) refl (p x) refl (filter_within p 
 -- who stands before a merge is found among them
 pub standing_joiners : (store : Store) (g : Applied) → standing_for store g (joiners_of store) ≡ standing_for store g (ids_of store)
 standing_joiners store g = fun_ext (λ source. filter_within (λ t. is_for source (stands store g t)) (has_commit store) (kept_one store g source) (ids_of store))
-
--- one region more
-pub joiners_more : (store : Store) (ids : List ℕ) (i : ℕ) (b : Bool) → i < length ids → has_commit store (get_or ids i 0) ≡ b
-    → filter (has_commit store) (take (i + 1) ids) ≡ filter (has_commit store) (take i ids) ++ cond b (get_or ids i 0 ∷ []) []
-joiners_more store ids i b h e =
-    ap (filter (has_commit store)) (take_one ids i h)
-    ∙ (filter-append (has_commit store) (take i ids) (get_or ids i 0 ∷ [])
-    ∙ ap (λ (c : Bool). filter (has_commit store) (take i ids) ++ cond c (get_or ids i 0 ∷ []) []) e)

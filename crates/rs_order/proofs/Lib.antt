@@ -10,6 +10,7 @@ pub mod LogPlaces
 pub mod Loops
 pub mod Near
 pub mod Orders
+pub mod Passing
 pub mod PlaceSteps
 pub mod Rising
 pub mod RollbackLaws

@@ -1,11 +1,14 @@
--- One step of the loops over region ids.
-use Rattle.std.proofs.Common.{◌≡◌, ℕ, ◌+◌, ◌<◌, List, ◌∷◌, length, get_or, drop, refl, ap, ◌∙◌, add-one, drop-cons}
+-- One step of the loops over lists, and over region ids.
+use Rattle.std.proofs.Common.{◌≡◌, ℕ, suc, ◌+◌, ◌<◌, List, [], ◌∷◌, ◌++◌, length, get_or, take, take-suc, drop, refl, ap, sym, ◌∙◌, add-one, drop-cons, arith}
 use Rattle.std.specs.Prelude.{Bool, true, false, Option, Some, None}
 use Rattle.std.specs.List.{find}
 use Rattle.rs_entry.specs.declared.entry.Entry.{Entry}
 use Rattle.rs_entry.specs.declared.input.Store.{Store}
 use Rattle.rs_order.specs.Ends.{first_of}
 use Rattle.rs_order.specs.Stores.{Applied, carried_next, carried_at, stands, first_some}
+
+pub take_here : {A : Type 0} (xs : List A) (i : ℕ) (x : A) → i < length xs → x ≡ get_or xs i x → take (i + 1) xs ≡ take i xs ++ x ∷ []
+take_here xs i x h e = let one : i + 1 ≡ suc i = omega arith in ap (λ n. take n xs) one ∙ (take-suc xs i x h ∙ ap (λ y. take i xs ++ y ∷ []) (sym e))
 
 at_drop : (xs : List ℕ) (i : ℕ) → i < length xs → drop i xs ≡ get_or xs i 0 ∷ drop (i + 1) xs
 at_drop xs i h = rw (add-one, drop-cons xs i 0)

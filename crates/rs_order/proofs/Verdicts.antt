@@ -25,9 +25,9 @@ use Rattle.rs_order.specs.declared.regions.Made.{Made}
 use Rattle.rs_key.specs.declared.no_memory.NoMemory.{NoMemory}
 use Rattle.rs_order.specs.declared.fault.StepFault.{StepFault}
 use Rattle.rs_order.specs.declared.fault.StepFault.TheVariants as faults
-use Rattle.rs_order.specs.Stores.{ByRegion, with_region, without, is_paused, own, as_merged, is_prepared_for, is_accept, step_by, commit_with, commit_in, step, step_in, step_with, next, passed, reshaped, merge_in, merge_of}
+use Rattle.rs_order.specs.Stores.{ByRegion, with_region, without, is_paused, own, as_merged, is_prepared_for, accept, is_accept, step_by, commit_with, commit_in, step, step_in, step_with, next, passed, reshaped, merge_in, merge_of}
 use Rattle.rs_order.proofs.Updates.{beside, put_two, put_back}
-use Rattle.rs_order.specs.Runs.{Run, told, bare, forget, Moved, Failed, IsFormed, is_bad}
+use Rattle.rs_order.specs.Runs.{Run, told, bare, forget, Moved, Failed, IsFormed, is_bad, passes}
 
 no_bad_cut : (o : Option ℕ) → split_verdict o ≡ verdicts.Accept → o ≡ None
 no_bad_cut None h = refl
@@ -135,6 +135,31 @@ step_found store f id found made e h k n =
     ap (λ o. forget (step_in store (bare f) id o)) k
     ∙ (ap (λ o. forget (step_with store (bare f) id made o)) (subst (λ (x : Made). next store (bare f) id x ≡ Some e) same n)
     ∙ ap (λ g. forget (step_by (verdict made.state e) store (bare g) id made e)) (sym (put_back f id made k)))
+
+passes_by : (v : Verdict) (b : Body) → passes v b ≡ true → (store : Store) (f : ByRegion) (id : ℕ) (r : Made) (e : Entry) → e.body ≡ b
+    → forget (step_by v store (bare f) id r e) ≡ Moved (with_region f id (passed r))
+passes_by verdicts.Accept body.Empty p store f id r e h = ap (λ z. forget (accept store (bare f) id r z)) h
+passes_by verdicts.Accept (body.Write ops) p store f id r e h = ap (λ z. forget (accept store (bare f) id r z)) h
+passes_by verdicts.Accept (body.Split side ids keys) p store f id r e h = absurd cc
+passes_by verdicts.Accept (body.Prepare target) p store f id r e h = absurd cc
+passes_by verdicts.Accept (body.Commit source commit carried) p store f id r e h = absurd cc
+passes_by verdicts.Accept (body.Rollback commit) p store f id r e h = absurd cc
+passes_by verdicts.Accept (body.Conf c) p store f id r e h = absurd cc
+passes_by verdicts.Empty b p store f id r e h = refl
+passes_by verdicts.Stale b p store f id r e h = refl
+passes_by verdicts.Merging b p store f id r e h = refl
+passes_by (verdicts.Outside place) b p store f id r e h = refl
+passes_by (verdicts.BadSplit place) b p store f id r e h = refl
+passes_by verdicts.BadPeer b p store f id r e h = refl
+passes_by verdicts.BadRollback b p store f id r e h = absurd cc
+
+-- a step of a region that was found, with a next entry that leaves it as it was
+pub step_passes : (store : Store) (f : ByRegion) (id : ℕ) (r : Made) (e : Entry) → f id ≡ Some r → next store (bare f) id r ≡ Some e → passes (verdict r.state e) e.body ≡ true
+    → forget (step store (bare f) id) ≡ Moved (with_region f id (passed r))
+step_passes store f id r e h n p =
+    ap (λ o. forget (step_in store (bare f) id o)) h
+    ∙ (ap (λ o. forget (step_with store (bare f) id r o)) n
+    ∙ passes_by (verdict r.state e) e.body p store f id r e refl)
 
 -- an entry that is no commit has no merge
 pub no_merge_of : (s : RegionState) (e : Entry) → None ≡ merge_in e.body → None ≡ merge_of s (Some e)

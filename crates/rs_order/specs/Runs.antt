@@ -79,6 +79,18 @@ abbrev pub is_bad : Verdict → Bool
 is_bad verdicts.BadRollback = true
 is_bad v = false
 
+-- an entry that changes no region's state
+abbrev pub is_plain : Body → Bool
+is_plain body.Empty = true
+is_plain (body.Write ops) = true
+is_plain b = false
+
+-- an entry with this verdict leaves its region as it was, but for the index
+abbrev pub passes : Verdict → Body → Bool
+passes verdicts.Accept b = is_plain b
+passes verdicts.BadRollback b = false
+passes v b = true
+
 -- an entry of which an accepted one changes its own region alone
 abbrev pub is_quiet : Body → Bool
 is_quiet (body.Split side ids keys) = false

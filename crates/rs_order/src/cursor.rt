@@ -1,17 +1,17 @@
 ghost use Rattle.std.specs.Prelude.{◌≡◌, ℕ, ◌+◌, ◌<◌, ◌≤◌, ◌^◌, ◌==◌, Option, Some, None, IfOk, OnOk, IsSome, IfSome, IfNone, true, false, ◌&&◌, length, slice_index};
-ghost use Rattle.rs_order.specs.Stores.{ids_of, after, is_ready, stands, least_ready};
+ghost use Rattle.rs_order.specs.Stores.{ids_of, after, is_ready, merge_of, own_next, stands, least_ready};
 ghost use Rattle.rs_order.specs.Runs.{seen, bare, forget, told, line_entry, is_quiet, IsAllLow, IsFormedStore};
 ghost use Rattle.rs_order.specs.Places.{known};
-ghost use Rattle.rs_order.specs.Cursor.{HasMerges, IsCalm, is_quiet_for};
+ghost use Rattle.rs_order.specs.Cursor.{HasMerges, IsCalm, MayPass, is_quiet_for};
 ghost use Rattle.rs_order.specs.Carriers.{carriers, standing_for};
 
 use crate::carriers::Carriers;
 use crate::indexed::IndexedStore;
 use crate::places::PlaceMap;
 use crate::regions::Regions;
-use crate::run::{Line, is_accept, is_ready, next, stands};
-use crate::step::verdict_of;
-use rs_entry::Body;
+use crate::run::{Line, is_accept, is_ready, merge_of, next, own_next, stands};
+use crate::step::{passes, verdict_of};
+use rs_entry::{Body, Entry};
 use rs_key::NoMemory;
 use rs_region::RegionState;
 use std::alloc::Global;
@@ -63,6 +63,37 @@ pub fn is_calm(
     match next(indexed, standing, regions, id, made) {
         None => false,
         Some(line) => is_quiet_for(&made.state, line),
+    }
+}
+
+/// Whether the region's next entry, one of its own log, is passed without a change for others.
+pub fn may_pass(indexed: &IndexedStore<'_>, awaited: &PlaceMap, regions: &Regions, id: u64) -> bool
+    requires { IsAllLow (seen regions.now) }
+    ensures { result ≡ true → MayPass indexed.now (known awaited.now) (seen regions.now) id }
+{
+    let Some(made) = regions.get(id) else {
+        return false;
+    };
+    let log = indexed.own(id);
+    let Some(entry) = own_next(log, made.applied) else {
+        return false;
+    };
+    if !passes(&made.state, Line::Own(entry)) {
+        return false;
+    }
+    if awaited.get(id, made.applied + 1).is_some() {
+        return false;
+    }
+    has_no_merge(&made.state, log, made.applied + 1)
+}
+
+/// Whether the entry that follows the index is no commit that is accepted.
+fn has_no_merge(state: &RegionState, log: &[Entry], applied: u64) -> bool
+    ensures { result ≡ true → merge_of state.now (own_next log.now applied) ≡ None }
+{
+    match own_next(log, applied) {
+        None => true,
+        Some(entry) => merge_of(state, entry).is_none(),
     }
 }
 

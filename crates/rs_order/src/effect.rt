@@ -1,18 +1,18 @@
-ghost use Rattle.std.specs.Prelude.{◌≡◌, ◌-◌, ◌<◌, ◌^◌, [], Some, None, IfOk, IfSome, false, slice_get, option_to_list};
+ghost use Rattle.std.specs.Prelude.{◌≡◌, ◌<◌, ◌^◌, [], Some, None, IfOk, IfSome};
 ghost use Rattle.std.specs.Option.{option_copied};
-ghost use Rattle.rs_order.specs.Stores.{ids_of, is_accept, step, ops_in, reply_to, target_in, keys_at};
+ghost use Rattle.rs_order.specs.Stores.{ids_of, step};
 ghost use Rattle.rs_order.specs.Runs.{seen, bare, line_entry, IsAllLow, IsFormed, IsFormedStore};
 ghost use Rattle.rs_order.specs.Carriers.{carriers, standing_for};
 ghost use Rattle.rs_order.specs.Walks.{version_over, reply_before, Tells};
 
 use crate::carriers::Carriers;
 use crate::indexed::IndexedStore;
+use crate::refusals::{ops_in, refusal};
 use crate::regions::{Made, Regions};
 use crate::run::{Line, is_accept, next};
 use crate::step::verdict_of;
-use rs_entry::{Body, CarriedBody, Mode, Op, Reply};
-use rs_key::{Epoch, NoMemory, TryClone};
-use rs_region::{RegionState, Verdict};
+use rs_entry::{Body, CarriedBody, Op, Reply};
+use rs_key::{Epoch, NoMemory};
 
 /// What the entry of a region at an index does, beside what becomes of the regions.
 #[derive(Drop)]
@@ -75,22 +75,6 @@ fn no_effect<'a>(id: u64) -> Effect<'a>
     }
 }
 
-fn ops_in<'a>(line: Line<'a>) -> &'a [Op]
-    ensures { result.now ≡ ops_in (line_entry line.entry).body }
-{
-    match line {
-        Line::Own(entry) => match &entry.body {
-            Body::Write(ops) => ops.as_slice(),
-            _ => &[],
-        },
-        Line::Carried(entry) => match &entry.body {
-            CarriedBody::Empty => &[],
-            CarriedBody::Write(ops) => ops.as_slice(),
-            CarriedBody::Prepare { .. } => &[],
-        },
-    }
-}
-
 fn version_over(epoch: Epoch, source: Option<&Made>) -> u64
     requires version { epoch.version < 2 ^ 62 }
     requires source { IfSome source (λ q. q.now.state.epoch.version < 2 ^ 62) }
@@ -127,41 +111,5 @@ fn reply_before(regions: &Regions, id: u64, made: &Made, line: Line<'_>) -> Repl
             CarriedBody::Write(_) => Reply::Done(epoch.version),
             CarriedBody::Prepare { .. } => Reply::Done(epoch.version + 1),
         },
-    }
-}
-
-/// The reply to an entry that isn't accepted.
-fn refusal(verdict: Verdict, line: Line<'_>, state: &RegionState) -> Result<Option<Reply>, NoMemory>
-    requires { is_accept verdict ≡ false }
-    ensures { IfOk result (λ reply. option_to_list reply ≡ reply_to verdict (line_entry line.entry).body state.now) }
-{
-    match verdict {
-        Verdict::Empty => Ok(Some(Reply::Empty)),
-        Verdict::Stale => Ok(Some(Reply::Stale(state.epoch))),
-        Verdict::Merging => Ok(Some(Reply::Merging(target_in(state.mode)))),
-        Verdict::Outside(place) => Ok(outside(ops_in(line), place)?),
-        Verdict::BadSplit(place) => Ok(Some(Reply::BadSplit(place as u64))),
-        Verdict::BadPeer => Ok(Some(Reply::BadPeer)),
-        Verdict::BadRollback | Verdict::Accept => Ok(None),
-    }
-}
-
-fn target_in(mode: Mode) -> u64
-    ensures { result ≡ target_in mode }
-{
-    match mode {
-        Mode::Merging { target, .. } => target,
-        _ => 0,
-    }
-}
-
-/// The reply that names the key of the operation at the place, counted from 1.
-fn outside(ops: &[Op], place: usize) -> Result<Option<Reply>, NoMemory>
-    ensures { IfOk result (λ reply. option_to_list reply ≡ keys_at (slice_get ops.now (place - 1))) }
-{
-    match ops.get(place.saturating_sub(1)) {
-        None => Ok(None),
-        Some(Op::Put(key, _)) => Ok(Some(Reply::Outside(key.try_clone()?))),
-        Some(Op::Delete(key)) => Ok(Some(Reply::Outside(key.try_clone()?))),
     }
 }

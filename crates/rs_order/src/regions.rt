@@ -1,7 +1,8 @@
-ghost use Rattle.std.specs.Prelude.{◌≡◌, OnOk};
+ghost use Rattle.std.specs.Prelude.{◌≡◌, ◌<◌, ◌^◌, Some, OnOk};
 ghost use Rattle.std.specs.Option.{option_copied};
 ghost use Rattle.rs_order.specs.Runs.{seen};
-ghost use Rattle.rs_order.specs.Stores.{with_region, without, no_regions};
+ghost use Rattle.rs_order.specs.declared.regions.Made.{Made};
+ghost use Rattle.rs_order.specs.Stores.{passed, with_region, without, no_regions};
 
 use rs_key::{NoMemory, Rows};
 use rs_region::RegionState;
@@ -57,6 +58,16 @@ impl Regions {
         let old = self.made.insert(id, made)?;
         drop(old);
         Ok(())
+    }
+
+    /// The region has applied one entry more. Where it isn't there nothing changes.
+    pub fn pass(&mut self, id: u64)
+        requires { (made : Made) → seen self.old id ≡ Some made → made.applied < 2 ^ 62 }
+        ensures { (made : Made) → seen self.old id ≡ Some made → seen self.new ≡ with_region (seen self.old) id (passed made) }
+    {
+        if let Some(made) = self.made.get_mut(&id) {
+            made.applied += 1;
+        }
     }
 
     /// Takes the region out.

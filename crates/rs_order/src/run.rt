@@ -68,6 +68,7 @@ pub fn look(indexed: &mut IndexedStore<'_>, regions: &Regions, id: u64) -> Resul
     }
 }
 
+/// Whether the entry is applied.
 pub fn is_accept(verdict: Verdict) -> bool
     ensures { result ≡ is_accept verdict }
 {
@@ -96,7 +97,7 @@ fn merge_in(body: &Body) -> Option<Standing<'_>>
 
 /// The merge of the entry, where it is a commit that the region accepts.
 #[tactic(auto, using(crate::proofs::Verdicts::no_merge_of))]
-fn merge_of<'a>(state: &RegionState, entry: &'a Entry) -> Option<Standing<'a>>
+pub fn merge_of<'a>(state: &RegionState, entry: &'a Entry) -> Option<Standing<'a>>
     ensures { result ≡ merge_of state.now (Some entry.now) }
 {
     let Some(merge) = merge_in(&entry.body) else {

@@ -7,7 +7,7 @@ ghost use Rattle.rs_region.specs.Reshapings.{split_kept, split_new, prepared, ro
 ghost use Rattle.rs_region.specs.declared.verdict.Verdict.TheVariants as verdicts;
 ghost use Rattle.rs_order.specs.declared.regions.Made.{Made};
 ghost use Rattle.rs_order.specs.Stores.{ids_of, own, is_paused, step, step_by, accept, commit_in, with_region, with_regions, is_prepared_for, commit_with, as_merged, passed, reshaped, born, conf_changed, is_removal_of};
-ghost use Rattle.rs_order.specs.Runs.{seen, bare, forget, told, Moved, IsLow, IsAllLow, IsFormed, IsFormedStore, line_entry, is_bad};
+ghost use Rattle.rs_order.specs.Runs.{seen, bare, forget, told, Moved, IsLow, IsAllLow, IsFormed, IsFormedStore, line_entry, is_bad, is_plain, passes};
 ghost use Rattle.rs_order.specs.Carriers.{carriers, standing_for};
 
 use crate::carriers::Carriers;
@@ -42,6 +42,34 @@ fn commit_in(line: Line<'_>) -> u64
             CarriedBody::Write(_) => 0,
             CarriedBody::Prepare { .. } => 0,
         },
+    }
+}
+
+fn is_plain(line: Line<'_>) -> bool
+    ensures { result ≡ is_plain (line_entry line.entry).body }
+{
+    match line {
+        Line::Own(entry) => match &entry.body {
+            Body::Empty => true,
+            Body::Write(_) => true,
+            _ => false,
+        },
+        Line::Carried(entry) => match &entry.body {
+            CarriedBody::Empty => true,
+            CarriedBody::Write(_) => true,
+            CarriedBody::Prepare { .. } => false,
+        },
+    }
+}
+
+/// Whether the entry leaves the region as it is, but for the index.
+pub fn passes(state: &RegionState, line: Line<'_>) -> bool
+    ensures { result ≡ passes (verdict state.now (line_entry line.entry)) (line_entry line.entry).body }
+{
+    match verdict_of(state, line) {
+        Verdict::Accept => is_plain(line),
+        Verdict::BadRollback => false,
+        _ => true,
     }
 }
 
@@ -460,6 +488,10 @@ pub fn step(
     let Some(line) = next(indexed, standing, regions, id, found) else {
         return Ok(None);
     };
+    if passes(&found.state, line) {
+        regions.pass(id);
+        return Ok(None);
+    }
     let Some(made) = regions.take(id) else {
         return Ok(None);
     };

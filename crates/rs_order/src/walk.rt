@@ -8,7 +8,7 @@ ghost use Rattle.rs_order.specs.Walks.{IsWalk, Goes, Keeps, Leads, store_of, mad
 use crate::awaits::awaited;
 use crate::carriers::Carriers;
 use crate::counts::entries_in;
-use crate::cursor::{is_calm, may_stay, ready_from};
+use crate::cursor::{is_calm, may_pass, may_stay, ready_from};
 use crate::effect::{Effect, effect_of};
 use crate::fault::StepFault;
 use crate::indexed::IndexedStore;
@@ -127,6 +127,25 @@ impl<'a> Walk<'a> {
         ensures store { IfOk result (λ _. store_of self.new ≡ store_of self.old) }
         ensures steps { IfOk result (λ _. self.new.steps ≡ self.old.steps + 1) }
     {
+        if may_pass(&self.indexed, &self.awaited, &self.regions, id) {
+            self.steps += 1;
+            self.regions.pass(id);
+            return Ok(None);
+        }
+        self.apply_next(alloc, id)
+    }
+
+    /// The same where the entry isn't passed.
+    fn apply_next(&mut self, alloc: Global, id: u64) -> Result<Option<StepFault>, NoMemory>
+        requires walk { IsWalk self.old }
+        requires few { self.old.steps < 2 ^ 50 }
+        requires formed { IsFormedStore (store_of self.old) }
+        requires ready { is_ready (store_of self.old) (bare (made_by self.old)) id ≡ true }
+        ensures step { IfOk result (λ fault. forget (step (store_of self.old) (bare (made_by self.old)) id) ≡ told fault (made_by self.new)) }
+        ensures walk { IfOk result (λ fault. fault ≡ None → IsWalk self.new) }
+        ensures store { IfOk result (λ _. store_of self.new ≡ store_of self.old) }
+        ensures steps { IfOk result (λ _. self.new.steps ≡ self.old.steps + 1) }
+    {
         let calm = is_calm(
             &self.indexed,
             &self.standing,
@@ -148,6 +167,7 @@ impl<'a> Walk<'a> {
         self.standing = Carriers::of(alloc, &self.indexed, &self.regions)?;
         Ok(None)
     }
+
     /// The most steps that the canonical order has.
     pub fn most(&self) -> usize
         requires { IsWalk self.now }

@@ -1,10 +1,17 @@
 use Rattle.std.proofs.Common.{◌≡◌, ◌∙◌, sym, ap, subst}
-use Rattle.rs_order.specs.Runs.{seen, IsAllLow, forget, line_entry, bare, told}
+use Rattle.std.specs.Prelude.{Some}
+use Rattle.rs_order.specs.Runs.{seen, IsAllLow, Moved, forget, line_entry, bare, told}
 use Rattle.rs_order.specs.Stores.{ByRegion, with_region, step_by}
 use Rattle.rs_region.specs.Verdicts.{verdict}
 use Rattle.rs_order.proofs.Updates.{rest_low, out_is_out}
-use Rattle.rs_order.proofs.Verdicts.{step_found}
+use Rattle.rs_order.proofs.Verdicts.{step_found, step_passes}
 use Rattle.rs_order.proofs.step.step.Goals as goal
+
+pub returns-then-passes : goal.returns-then-passes
+returns-then-passes c =
+    let here : seen c.args.regions.now c.args.id ≡ Some c.in-Some.found.now = sym c.in-Some.ensures in
+    step_passes c.args.indexed.now (seen c.args.regions.now) c.args.id c.in-Some.found.now (line_entry c.in-Some-next.line) here (sym c.in-Some-next.ensures.value) (sym c.if-passes.ensures)
+    ∙ ap Moved (sym (c.pass.ensures c.in-Some.found.now here))
 
 pub apply-requires-clause-all : goal.apply-requires-clause-all
 apply-requires-clause-all c = subst IsAllLow (sym c.take.ensures.gone) (rest_low (seen c.args.regions.now) c.args.id c.requires.low)
