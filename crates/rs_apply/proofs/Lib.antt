@@ -4,7 +4,6 @@ pub mod Coming
 pub mod Commits
 pub mod Ends
 pub mod Fitted
-pub mod Forming
 pub mod NextParts
 pub mod Opens
 pub mod Places

@@ -13,7 +13,6 @@ ghost use Rattle.rs_apply.specs.Steps.{IsNext};
 
 use crate::joining::merge;
 use crate::next::Next;
-use crate::refusals::is_accept;
 use crate::splits::split;
 use crate::steps::{conf, prepare, refuse, roll_back, write};
 use rs_check::Line;
@@ -21,6 +20,7 @@ use rs_entry::{Body, CarriedBody, Reply};
 use rs_key::NoMemory;
 use rs_map::Map;
 use rs_msg::{Closed, Outbox};
+use rs_order::is_accept;
 use rs_region::{RegionState, Verdict};
 
 /// Applies the entry, and sends what it makes. Where it commits a merge the source must have handed over.

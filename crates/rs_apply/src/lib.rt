@@ -18,7 +18,6 @@ mod machine;
 mod next;
 mod noting;
 mod progress;
-mod refusals;
 mod region;
 mod splits;
 mod steps;

@@ -8,10 +8,10 @@ ghost use Rattle.rs_apply.specs.Merges.{merge_in, unheld};
 ghost use Rattle.rs_apply.specs.Reshapings.{reshapes_by};
 
 use crate::held::has_closed;
-use crate::refusals::is_accept;
 use rs_check::{Line, Plan};
 use rs_entry::{Body, CarriedBody};
 use rs_msg::Closed;
+use rs_order::is_accept;
 use rs_region::Verdict;
 
 /// The source of the merge that the entry commits, and the index of its prepare.

@@ -12,7 +12,9 @@ use crate::births::{born, opened};
 use crate::handling::{ends_by, is_new, merges_so_far};
 use crate::progress::{Life, Progress};
 use rs_check::Plan;
+use rs_entry::Input;
 use rs_key::{NoMemory, Rows};
+use rs_mailcore::{Fsm, Named};
 use rs_msg::{ApplyMsg, Closed, Outbox};
 use std::mem;
 
@@ -149,4 +151,19 @@ impl<'p> ApplyFsm<'p> {
             }
         }
     }
+}
+
+impl<'p> Named for ApplyFsm<'p> {
+    type Name = Input;
+
+    ghost name = { λ machine. machine.plan.now };
+}
+
+impl<'p> Fsm for ApplyFsm<'p> {
+    ghost use Rattle.std.specs.Coded.{Coded-set};
+    ghost use Rattle.rs_entry.specs.contracts.input.Input.{the_row};
+
+    type Message = ApplyMsg<'p>;
+
+    ghost one_name = { Coded-set the_row.coded };
 }

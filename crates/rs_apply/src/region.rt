@@ -81,7 +81,6 @@ impl<'p> Region<'p> {
         ensures entry { HasNext self.now.plan.now self.now.address self.now.index (line_entry result) }
         ensures formed { IsFormed (line_entry result).body }
     {
-        let _ = self.plan.input();
         let Some(line) = self.plan.entry(self.address, self.index + 1) else {
             unreachable!()
         };

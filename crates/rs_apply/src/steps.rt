@@ -12,10 +12,10 @@ ghost use Rattle.rs_msg.specs.Held.{IsHeld};
 ghost use Rattle.rs_apply.specs.Steps.{IsNext, with_writes};
 
 use crate::next::Next;
-use crate::refusals::refusal;
 use rs_entry::{Change, Item, Op, Reply};
 use rs_key::{NoMemory, Rows, TryClone};
 use rs_map::Map;
+use rs_order::refusal;
 use rs_region::{RegionState, Verdict};
 use std::alloc::Global;
 

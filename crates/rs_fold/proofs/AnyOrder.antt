@@ -16,8 +16,8 @@ use Rattle.rs_value.proofs.Known.{done_known}
 use Rattle.rs_value.proofs.Whole.{order_invariant}
 use Rattle.rs_fold.specs.Ends.{IsLawful}
 use Rattle.rs_fold.specs.Ordered.{Broken, Gave, ended, in_order_of, ordered_by}
-use Rattle.rs_fold.specs.Outcomes.{outcome_at, outcome_by, store_outcome}
-use Rattle.rs_fold.proofs.SameOutcomes.{agreed_outcome}
+use Rattle.rs_outcome.specs.Outcomes.{outcome_at, outcome_by, store_outcome}
+use Rattle.rs_outcome.proofs.SameOutcomes.{agreed_outcome}
 
 -- the canonical order of a lawful store comes to its end
 lawful_last : (store : Store) → IsLawful store → (k : Applied) × (last store ≡ Went k)

@@ -3,11 +3,7 @@ use Rattle.std.proofs.Common.{◌≡◌, ◌∙◌, sym, refl, ap, subst, ℕ, s
 use Rattle.std.specs.Prelude.{None, option_to_list}
 use Rattle.std.proofs.lemmas.List.{map-append}
 use Rattle.rs_entry.specs.declared.input.Store.{Store}
-use Rattle.rs_entry.specs.declared.outcome.KeyHistory.{KeyHistory}
-use Rattle.rs_entry.specs.declared.outcome.Pair.{Pair}
-use Rattle.rs_entry.specs.declared.outcome.RegionLine.{RegionLine}
 use Rattle.rs_entry.specs.declared.outcome.ReplyLine.{ReplyLine}
-use Rattle.rs_entry.specs.declared.outcome.StoreOutcome.{StoreOutcome}
 use Rattle.rs_order.specs.declared.effect.Effect.{Effect}
 use Rattle.rs_order.specs.declared.fault.StepFault.{StepFault}
 use Rattle.rs_order.specs.Stores.{ByRegion, Applied, Stepped, Went, Broke, Wrote, wrote, replied, least_ready, advance, after, entries_in, ids_of, last}
@@ -15,8 +11,8 @@ use Rattle.rs_order.specs.Runs.{bare}
 use Rattle.rs_order.specs.Ends.{fault_at_end}
 use Rattle.rs_order.specs.Walks.{gained}
 use Rattle.rs_order.proofs.WalkLaws.{onto, after_on, rests_whole, breaks_whole}
-use Rattle.rs_fold.specs.Histories.{histories_of, pairs_of}
-use Rattle.rs_fold.specs.Outcomes.{reply_line, by_region, lines_in, removed_in, shown, outcome_with, outcome_by, store_outcome}
+use Rattle.rs_outcome.specs.Histories.{histories_of}
+use Rattle.rs_outcome.specs.Outcomes.{reply_line, lines_in, removed_in, shown, outcome_with, outcome_by, store_outcome}
 use Rattle.rs_fold.specs.Ends.{WentSo}
 
 -- what went so is there
@@ -75,9 +71,3 @@ unfolding store_outcome
 outcome_is store f ws ys so = go (there (last store) f ws ys so) where
   go : Is (last store) f ws ys → outcome_by store (last store) ≡ outcome_with store.id (lines_in store f (ids_of store)) ys (histories_of (shown (removed_in f (ids_of store)) ws))
   go (g, (is, (r, (w, y)))) = rw (is, r, w, y) refl
-
--- an outcome of these parts
-pub outcome_made : (id : ℕ) (lines wanted : List RegionLine) (replies raw : List ReplyLine) (pairs : List Pair) (histories all : List KeyHistory)
-    → lines ≡ wanted → replies ≡ by_region raw → pairs ≡ pairs_of histories → histories ≡ all
-    → ◌≡◌ {A = StoreOutcome} (record { id = id; regions = lines; replies = replies; pairs = pairs; histories = histories }) (outcome_with id wanted raw all)
-outcome_made id lines wanted replies raw pairs histories all l r p h = rw (r, p, l, h) refl

@@ -12,7 +12,8 @@ use Rattle.std.proofs.lemmas.Cmp.{nat_list_cmp_total}
 use Rattle.std.proofs.lemmas.List.Elements.{filter_agree}
 use Rattle.std.proofs.lemmas.List.Sorted.{ranks_by}
 use Rattle.rs_order.specs.Stores.{Wrote}
-use Rattle.rs_fold.specs.Writes.{of_key, key_below}
+use Rattle.rs_value.specs.Items.{of_key}
+use Rattle.rs_fold.specs.Writes.{key_below}
 
 -- neither way less, from the answer one way
 tied_by : (s : Ordering) → (not (is_lt (ordering_reverse s)) && not (is_lt s)) ≡ is_eq (ordering_reverse s)

@@ -15,9 +15,9 @@ use Rattle.rs_value.specs.Orders.{End, Faulty, Followed, NotReady, follow, follo
 use Rattle.rs_value.proofs.Canonical.{order_length}
 use Rattle.rs_value.proofs.Following.{follow_more}
 use Rattle.rs_fold.specs.Ends.{IsLawful, outcome_left}
-use Rattle.rs_fold.specs.Ordered.{Broken, EndsSo, Gave, IsScripted, TooSoon, Unfinished, ended, in_order_of, ordered_by}
-use Rattle.rs_fold.specs.Outcomes.{outcome_at, reply_line, store_outcome}
-use Rattle.rs_check.proofs.LawSteps.{take_here}
+use Rattle.rs_fold.specs.Ordered.{EndsSo, Gave, IsScripted, TooSoon, Unfinished, ended, in_order_of, ordered_by}
+use Rattle.rs_outcome.specs.Outcomes.{reply_line, store_outcome}
+use Rattle.rs_order.proofs.Loops.{take_here}
 use Rattle.rs_fold.proofs.AnyOrder.{ordered_same, ordered_whole}
 
 -- an order that came so has an end

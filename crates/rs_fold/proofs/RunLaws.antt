@@ -7,7 +7,7 @@ use Rattle.rs_key.proofs.RangeLaws.{same_bytes_is}
 use Rattle.rs_entry.specs.declared.outcome.Item.{Item}
 use Rattle.rs_entry.specs.declared.outcome.KeyHistory.{KeyHistory}
 use Rattle.rs_order.specs.Stores.{Wrote}
-use Rattle.rs_fold.specs.Writes.{item_of}
+use Rattle.rs_value.specs.Items.{item_of}
 use Rattle.rs_fold.specs.Runs.{add_first, groups}
 
 -- the items of a key put before the histories of later writes

@@ -3,7 +3,7 @@ use Rattle.std.proofs.Common.{◌≡◌, refl, ap, List, [], ◌∷◌}
 use Rattle.std.specs.Prelude.{length}
 use Rattle.rs_key.specs.Ranges.{Bounds}
 use Rattle.rs_order.specs.Stores.{Wrote}
-use Rattle.rs_fold.specs.Outcomes.{shown}
+use Rattle.rs_outcome.specs.Outcomes.{shown}
 
 -- where there is no range all are
 none_hidden : (ws : List Wrote) → ws ≡ shown [] ws

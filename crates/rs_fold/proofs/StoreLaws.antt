@@ -1,6 +1,5 @@
 -- What holds of a store of a lawful input.
 use Rattle.std.proofs.Common.{◌≡◌, Bool, Some, None}
-use Rattle.std.specs.Prelude.{Option}
 use Rattle.std.specs.List.{find}
 use Rattle.std.proofs.lemmas.List.Elements.{recursion_from_All}
 use Rattle.rs_entry.specs.WellFormed.{WellFormed}

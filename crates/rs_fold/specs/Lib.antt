@@ -1,8 +1,6 @@
 pub mod Ends
-pub mod Histories
 pub mod KeyCodes
 pub mod Ordered
-pub mod Outcomes
 pub mod Replies
 pub mod Runs
 pub mod SmallInput

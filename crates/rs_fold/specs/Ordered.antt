@@ -12,7 +12,7 @@ use Rattle.rs_value.specs.Telling.{Begins, Tells}
 use Rattle.rs_fold.specs.declared.fold_error.FoldError.{FoldError}
 use Rattle.rs_fold.specs.declared.fold_error.FoldError.TheVariants as errors
 use Rattle.rs_fold.specs.declared.run.End.{End as Reached}
-use Rattle.rs_fold.specs.Outcomes.{outcome_at, reply_line, store_outcome}
+use Rattle.rs_outcome.specs.Outcomes.{outcome_at, reply_line, store_outcome}
 
 -- to an outcome, where it ends with no region ready; to a place, counted from 1, whose region is not ready yet;
 -- to a region that is still ready at its end; or to a fault

@@ -3,7 +3,7 @@ use Rattle.std.specs.Prelude.{List, [], ◌∷◌, if◌then◌else◌}
 use Rattle.rs_key.specs.Keys.{same_bytes}
 use Rattle.rs_entry.specs.declared.outcome.KeyHistory.{KeyHistory}
 use Rattle.rs_order.specs.Stores.{Wrote}
-use Rattle.rs_fold.specs.Writes.{item_of}
+use Rattle.rs_value.specs.Items.{item_of}
 
 -- a write put before the histories of later writes: at the front of its key's where that comes first
 abbrev pub add_first : Wrote → List KeyHistory → List KeyHistory

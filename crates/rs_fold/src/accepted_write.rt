@@ -4,7 +4,7 @@ ghost use Rattle.std.specs.Ordering.{nat_cmp};
 ghost use Rattle.rs_key.specs.Keys.{same_bytes};
 ghost use Rattle.rs_entry.specs.Entries.{key_of};
 ghost use Rattle.rs_order.specs.Stores.{wrote};
-ghost use Rattle.rs_fold.specs.Writes.{item_of};
+ghost use Rattle.rs_value.specs.Items.{item_of};
 
 use crate::key_code::{code_of, compare};
 use rs_entry::{Item, Op};

@@ -1,5 +1,5 @@
 ghost use Rattle.std.specs.Prelude.{◌≡◌, ◌<◌, ◌≤◌, ◌∷◌, length, map, take, drop, IfOk, slice_get, Some};
-ghost use Rattle.rs_fold.specs.Writes.{item_of};
+ghost use Rattle.rs_value.specs.Items.{item_of};
 ghost use Rattle.rs_fold.specs.Runs.{groups};
 
 use crate::accepted_write::AcceptedWrite;

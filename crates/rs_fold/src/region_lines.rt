@@ -2,7 +2,7 @@ ghost use Rattle.std.specs.Prelude.{◌≡◌, ◌<◌, ◌^◌, IfOk};
 ghost use Rattle.std.specs.Option.{option_copied};
 ghost use Rattle.rs_order.specs.Indexes.{AreRising, log_ids};
 ghost use Rattle.rs_order.specs.Runs.{seen};
-ghost use Rattle.rs_fold.specs.Outcomes.{left_of, region_line, lines_in, is_removed, removed_range, removed_in};
+ghost use Rattle.rs_outcome.specs.Outcomes.{left_of, region_line, lines_in, is_removed, removed_range, removed_in};
 
 use rs_entry::{Entry, Mode, RegionLine, Store};
 use rs_key::{NoMemory, Range, Rows, TryClone};

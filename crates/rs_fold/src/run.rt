@@ -2,7 +2,7 @@ ghost use Rattle.std.specs.Prelude.{◌≡◌, ◌++◌, map, IfOk, OnOk, option
 ghost use Rattle.rs_order.specs.Stores.{last, ids_of, replied};
 ghost use Rattle.rs_order.specs.Runs.{seen};
 ghost use Rattle.rs_order.specs.Formed.{IsFormedOne};
-ghost use Rattle.rs_fold.specs.Outcomes.{reply_line};
+ghost use Rattle.rs_outcome.specs.Outcomes.{reply_line};
 ghost use Rattle.rs_fold.specs.Ends.{IsLawful, WentSo};
 
 use crate::writes::Writes;

@@ -9,6 +9,7 @@ use rs_entry::{
     RegionLine, Side, Store, StoreOutcome,
 };
 use rs_key::{Epoch, Key, NoMemory, Range, Rows, Value};
+use rs_outcome::pairs_of;
 use std::alloc::Global;
 use std::test::Fail;
 

@@ -2,9 +2,10 @@ ghost use Rattle.std.specs.Prelude.{◌≡◌, ◌++◌, [], ℕ, List, map, OnO
 ghost use Rattle.std.specs.List.{filter};
 ghost use Rattle.std.specs.List.Sorted.{IsPermutation, IsSortedBy};
 ghost use Rattle.rs_order.specs.Stores.{wrote};
-ghost use Rattle.rs_fold.specs.Writes.{of_key, key_below};
-ghost use Rattle.rs_fold.specs.Histories.{histories_of};
-ghost use Rattle.rs_fold.specs.Outcomes.{is_shown, shown};
+ghost use Rattle.rs_value.specs.Items.{of_key};
+ghost use Rattle.rs_fold.specs.Writes.{key_below};
+ghost use Rattle.rs_outcome.specs.Histories.{histories_of};
+ghost use Rattle.rs_outcome.specs.Outcomes.{is_shown, shown};
 
 use crate::accepted_write::AcceptedWrite;
 use crate::grouping::grouped;

@@ -1,2 +1,2 @@
-mod SmallInputLaws
-mod SmallParts
+pub mod SmallInputLaws
+pub mod SmallParts

@@ -2,6 +2,8 @@ use crate::closed::Closed;
 use crate::ending::Ending;
 use crate::piece::Piece;
 use rs_check::Plan;
+use rs_entry::Input;
+use rs_mailcore::Named;
 
 /// What a region's peer machine is told.
 #[derive(Drop)]
@@ -70,4 +72,28 @@ pub enum StoreMsg<'p> {
     Ended {
         ending: Box<Ending<'p>>,
     },
+}
+
+impl<'p> Named for PeerMsg<'p> {
+    ghost use Rattle.rs_msg.specs.Names.{name_of_peer};
+
+    type Name = Input;
+
+    ghost name = { name_of_peer };
+}
+
+impl<'p> Named for ApplyMsg<'p> {
+    ghost use Rattle.rs_msg.specs.Names.{name_of_apply};
+
+    type Name = Input;
+
+    ghost name = { name_of_apply };
+}
+
+impl<'p> Named for StoreMsg<'p> {
+    ghost use Rattle.rs_msg.specs.Names.{name_of_store};
+
+    type Name = Input;
+
+    ghost name = { name_of_store };
 }

@@ -8,7 +8,9 @@ ghost use Rattle.rs_peer.specs.Kept.{IsKeptOf, applied_after, tombstone_after};
 ghost use Rattle.rs_peer.specs.Sent.{AddsFront, IsOfPlan, sent_for};
 
 use rs_check::Plan;
+use rs_entry::Input;
 use rs_key::NoMemory;
+use rs_mailcore::{Fsm, Named};
 use rs_msg::{ApplyMsg, Outbox, PeerMsg};
 
 /// The peer machine of one region on one store.
@@ -88,6 +90,21 @@ impl<'p> PeerFsm<'p> {
     {
         self.tombstone
     }
+}
+
+impl<'p> Named for PeerFsm<'p> {
+    type Name = Input;
+
+    ghost name = { λ machine. machine.plan.now };
+}
+
+impl<'p> Fsm for PeerFsm<'p> {
+    ghost use Rattle.std.specs.Coded.{Coded-set};
+    ghost use Rattle.rs_entry.specs.contracts.input.Input.{the_row};
+
+    type Message = PeerMsg<'p>;
+
+    ghost one_name = { Coded-set the_row.coded };
 }
 
 /// Lets the apply machine come up to its prepare, and then has it hand over.

@@ -1,9 +1,6 @@
-use Rattle.std.proofs.Common.{rules, ◌≡◌, ◌==◌, ◌∙◌, Some, None, ap, sym, subst}
+use Rattle.std.proofs.Common.{rules, ◌≡◌, ◌==◌, Some, subst}
 use Rattle.std.specs.List.{find}
-use Rattle.rs_entry.specs.declared.input.Input.{Input}
 use Rattle.rs_entry.specs.declared.input.Store.{Store}
-use Rattle.rs_entry.specs.WellFormed.{WellFormed}
-use Rattle.rs_check.specs.Laws.{check}
 use Rattle.rs_fold.specs.Ordered.{IsFoldOf}
 use Rattle.rs_fold.proofs.StoreLaws.{found_formed, found_lawful, found_scripted}
 use Rattle.rs_fold.proofs.in_order.fold_in.Goals as goal

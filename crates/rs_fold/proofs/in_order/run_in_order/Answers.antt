@@ -1,16 +1,16 @@
-use Rattle.std.proofs.Common.{◌≡◌, ◌∙◌, sym, ap, subst, ℕ, ◌+◌, ◌≤◌, ◌<◌, arith, true, false, List, length, take, slice_index_or, rules, map, ◌++◌}
-use Rattle.std.specs.Prelude.{None, Some, option_to_list}
+use Rattle.std.proofs.Common.{◌≡◌, ◌∙◌, sym, ap, subst, ℕ, ◌+◌, ◌≤◌, ◌<◌, arith, true, false, List, length, take, slice_index_or, map, ◌++◌}
+use Rattle.std.specs.Prelude.{None, option_to_list}
 use Rattle.std.proofs.lemmas.List.{length-take-le}
 use Rattle.std.proofs.Math.Seq.{take-length}
 use Rattle.rs_entry.specs.declared.input.Store.{Store}
 use Rattle.rs_entry.specs.declared.outcome.ReplyLine.{ReplyLine}
 use Rattle.rs_order.specs.declared.walk.Advance.{Advance}
 use Rattle.rs_order.specs.Runs.{bare}
-use Rattle.rs_order.specs.Stores.{ByRegion, Went, Broke, Wrote, entries_in, is_ready, least_ready, opening, replied, step, wrote}
+use Rattle.rs_order.specs.Stores.{ByRegion, Went, Broke, Wrote, entries_in, is_ready, least_ready, opening, replied, step}
 use Rattle.rs_order.specs.Walks.{Goes, IsOneOn, Keeps, gained, made_by, store_of}
 use Rattle.rs_value.specs.Orders.{follow}
 use Rattle.rs_fold.specs.Ordered.{EndsSo}
-use Rattle.rs_fold.specs.Outcomes.{reply_line}
+use Rattle.rs_outcome.specs.Outcomes.{reply_line}
 use Rattle.rs_fold.proofs.OrderSteps.{few_steps, goes_at, order_unfinished, region_at, room_at, stops_at, whole_at}
 use Rattle.rs_fold.proofs.in_order.run_in_order.Goals as goal
 

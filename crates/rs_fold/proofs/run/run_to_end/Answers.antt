@@ -7,7 +7,7 @@ use Rattle.rs_order.specs.Runs.{bare}
 use Rattle.rs_order.specs.Stores.{ByRegion, Wrote, Went, Broke, after, last, least_ready, advance, entries_in, wrote, replied}
 use Rattle.rs_order.specs.Walks.{Leads, Keeps, IsOneOn, made_by, store_of, gained}
 use Rattle.rs_fold.specs.Ends.{WentSo}
-use Rattle.rs_fold.specs.Outcomes.{reply_line}
+use Rattle.rs_outcome.specs.Outcomes.{reply_line}
 use Rattle.rs_fold.proofs.EndLaws.{went_on, went_last, never_breaks}
 use Rattle.rs_fold.proofs.run.run_to_end.Goals as goal
 

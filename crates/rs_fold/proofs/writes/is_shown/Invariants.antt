@@ -1,5 +1,5 @@
 use Rattle.std.proofs.Common.{◌≡◌, drop}
-use Rattle.rs_fold.specs.Outcomes.{is_shown}
+use Rattle.rs_outcome.specs.Outcomes.{is_shown}
 use Rattle.rs_fold.proofs.writes.is_shown.Given as goal
 
 abbrev pub invariant-loop-range : goal.invariant-loop-range

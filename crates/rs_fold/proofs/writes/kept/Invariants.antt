@@ -1,5 +1,5 @@
 use Rattle.std.proofs.Common.{◌≡◌, take}
-use Rattle.rs_fold.specs.Outcomes.{shown}
+use Rattle.rs_outcome.specs.Outcomes.{shown}
 use Rattle.rs_fold.proofs.writes.kept.Given as goal
 
 abbrev pub invariant-loop-write : goal.invariant-loop-write

@@ -1,7 +1,7 @@
 use Rattle.std.proofs.Common.{◌∙◌, ap}
-use Rattle.rs_fold.specs.Histories.{histories_of}
+use Rattle.rs_outcome.specs.Histories.{histories_of}
 use Rattle.rs_fold.specs.Runs.{groups}
-use Rattle.rs_fold.proofs.HistoryLaws.{sorted_histories}
+use Rattle.rs_fold.proofs.SortedWrites.{sorted_histories}
 use Rattle.rs_fold.proofs.writes.Writes.into_histories.Goals as goal
 
 pub returns : goal.returns

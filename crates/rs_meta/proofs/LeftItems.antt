@@ -1,0 +1,199 @@
+-- Each key's items at the end of a store's order are left by one region alone.
+use Rattle.std.proofs.Common.{◌≡◌, ◌∙◌, sym, refl, ap, ℕ, zero, suc, ◌<◌, Bool, true, false, not, ◌||◌, List, [], ◌∷◌, ◌++◌, take, Option, Some, None, arith, inl, inr, ◌⊎◌}
+use Rattle.std.specs.Prelude.{if◌then◌else◌, slice_get}
+use Rattle.std.specs.List.{cons_option, flat_map, list_any}
+use Rattle.std.proofs.lemmas.Bool.{both_ways, cases_eq}
+use Rattle.rs_key.specs.Ranges.{Bounds, holds}
+use Rattle.rs_entry.specs.declared.input.Input.{Input}
+use Rattle.rs_entry.specs.declared.input.Store.{Store}
+use Rattle.rs_entry.specs.declared.outcome.Mode.{Mode}
+use Rattle.rs_entry.specs.declared.outcome.Mode.TheVariants as mode
+use Rattle.rs_order.specs.declared.regions.Made.{Made}
+use Rattle.rs_order.specs.Stores.{Applied, ids_of, is_unmerged}
+use Rattle.rs_value.specs.Counting.{IsAmong}
+use Rattle.rs_value.specs.Held.{Held}
+use Rattle.rs_value.specs.Items.{history_of}
+use Rattle.rs_value.specs.Scripts.{Script}
+use Rattle.rs_value.specs.Whole.{Invariant}
+use Rattle.rs_value.proofs.Covers.{held_once}
+use Rattle.rs_value.proofs.Regions.{same_region}
+use Rattle.rs_msg.specs.Held.{leaves_map}
+use Rattle.rs_msg.specs.declared.ending.Ending.{Ending}
+use Rattle.rs_outcome.specs.Outcomes.{is_removed, is_shown, removed_in, removed_range, shown}
+use Rattle.rs_outcome.proofs.Ascending.{Ascend, behind_first, ids_ascend, none_made, one_made}
+use Rattle.rs_outcome.proofs.ShownHistories.{hidden_history, shown_history}
+use Rattle.rs_meta.specs.Readings.{items_left, items_of_all}
+use Rattle.rs_meta.proofs.Alongside.{Along, Beside, Says, shown_of}
+use Rattle.rs_meta.proofs.EndingLaws.{leaves_unmerged}
+
+removed_unmerged : (m : Mode) → is_removed m ≡ true → is_unmerged m ≡ true
+removed_unmerged mode.Normal e = absurd cc
+removed_unmerged (mode.Merging target commit) e = absurd cc
+removed_unmerged (mode.Merged target) e = absurd cc
+removed_unmerged mode.Removed e = refl
+
+-- an unmerged region leaves a map, or was removed
+leaves_or_removed : (m : Mode) → is_unmerged m ≡ true → leaves_map m ≡ not (is_removed m)
+leaves_or_removed mode.Normal e = refl
+leaves_or_removed (mode.Merging target commit) e = refl
+leaves_or_removed (mode.Merged target) e = absurd cc
+leaves_or_removed mode.Removed e = refl
+
+module _ (script : Script) (store : Store) (g : Applied) (inv : Invariant script store g) (key : List ℕ) where
+  -- where no region wrote the key, none shows it
+  none_written : history_of g.writes key ≡ [] → (o : Option Made) → shown_of g key o ≡ []
+  none_written none None = refl
+  none_written none (Some r) = go (leaves_map r.state.mode) (holds r.state.range key)
+    where
+      go : (a b : Bool) → (if a then (if b then history_of g.writes key else []) else []) ≡ []
+      go true true = none
+      go true false = refl
+      go false b = refl
+
+  module _ (w : Held g key) where
+    -- a region that isn't the one that holds the key doesn't show it
+    others_hide : (id : ℕ) → (id ≡ w.id → ⊥) → shown_of g key (g.region id) ≡ []
+    others_hide id ne = go (g.region id) refl
+      where
+        by_tests : (r : Made) → g.region id ≡ Some r → (a : Bool) → leaves_map r.state.mode ≡ a → (b : Bool) → holds r.state.range key ≡ b
+            → (if a then (if b then history_of g.writes key else []) else []) ≡ []
+        by_tests r made false a b e = refl
+        by_tests r made true a false e = refl
+        by_tests r made true a true e = absurd (inv.sound.apart id w.id r w.r ne made w.here (leaves_unmerged r.state.mode a) w.unmerged key e w.has)
+
+        go : (o : Option Made) → g.region id ≡ o → shown_of g key o ≡ []
+        go None none = refl
+        go (Some r) made = by_tests r made (leaves_map r.state.mode) refl (holds r.state.range key) refl
+
+    -- and it shows it where it leaves its map
+    it_shows : shown_of g key (g.region w.id) ≡ (if leaves_map w.r.state.mode then history_of g.writes key else [])
+    it_shows = ap (shown_of g key) w.here ∙ ap (λ b. if leaves_map w.r.state.mode then (if b then history_of g.writes key else []) else []) w.has
+
+    -- a removed region that holds the key is among those whose keys aren't shown
+    hidden : is_removed w.r.state.mode ≡ true → (ids : List ℕ) → IsAmong w.id ids → list_any (λ range. holds range key) (removed_in g.region ids) ≡ true
+    hidden removed [] i = absurd i
+    hidden removed (id ∷ ids) (inl p) =
+        ap (λ o. list_any (λ range. holds range key) (cons_option (removed_range o) (removed_in g.region ids))) (ap g.region (sym p) ∙ w.here)
+        ∙ (ap (λ b. list_any (λ range. holds range key) (cons_option (if b then Some w.r.state.range else None) (removed_in g.region ids))) removed
+        ∙ ap (λ b. b || list_any (λ range. holds range key) (removed_in g.region ids)) w.has)
+    hidden removed (id ∷ ids) (inr i) = go (removed_range (g.region id)) (hidden removed ids i)
+      where
+        go : (o : Option Bounds) → list_any (λ range. holds range key) (removed_in g.region ids) ≡ true
+            → list_any (λ range. holds range key) (cons_option o (removed_in g.region ids)) ≡ true
+        go None rest = rest
+        go (Some range) rest = or_right (holds range key) rest
+          where
+            or_right : (b : Bool) → list_any (λ range. holds range key) (removed_in g.region ids) ≡ true → (b || list_any (λ range. holds range key) (removed_in g.region ids)) ≡ true
+            or_right true rest = refl
+            or_right false rest = rest
+
+    -- and where it wasn't removed, no removed region holds the key
+    not_hidden : is_removed w.r.state.mode ≡ false → (ids : List ℕ) → list_any (λ range. holds range key) (removed_in g.region ids) ≡ false
+    not_hidden live [] = refl
+    not_hidden live (id ∷ ids) = by_region (g.region id) refl (not_hidden live ids)
+      where
+        by_tests : (r : Made) → g.region id ≡ Some r → (a : Bool) → is_removed r.state.mode ≡ a → (b : Bool) → holds r.state.range key ≡ b
+            → list_any (λ range. holds range key) (removed_in g.region ids) ≡ false
+            → list_any (λ range. holds range key) (cons_option (if a then Some r.state.range else None) (removed_in g.region ids)) ≡ false
+        by_tests r made false a b e rest = rest
+        by_tests r made true a false e rest = ap (λ b. b || list_any (λ range. holds range key) (removed_in g.region ids)) e ∙ rest
+        by_tests r made true a true e rest =
+            let other : Held g key = record { id = id; r = r; here = made; unmerged = removed_unmerged r.state.mode a; has = e } in
+            let same : id ≡ w.id = held_once script store g inv.sound key w other in
+            let one : r ≡ w.r = same_region (g.region id) (g.region w.id) r w.r made (ap g.region same) w.here in
+            absurd (both_ways (is_removed r.state.mode) (ap (λ z. is_removed z.state.mode) one ∙ live) a)
+
+        by_region : (o : Option Made) → g.region id ≡ o → list_any (λ range. holds range key) (removed_in g.region ids) ≡ false
+            → list_any (λ range. holds range key) (cons_option (removed_range o) (removed_in g.region ids)) ≡ false
+        by_region None none rest = rest
+        by_region (Some r) made rest = by_tests r made (is_removed r.state.mode) refl (holds r.state.range key) refl rest
+
+  -- what the regions show of a key is its history among the writes that are shown
+  pub all_shown : flat_map (λ id. shown_of g key (g.region id)) (ids_of store) ≡ history_of (shown (removed_in g.region (ids_of store)) g.writes) key
+  all_shown = elim (inv.whole.kept key) [
+    | inl none ↦ none_made (λ id. shown_of g key (g.region id)) (ids_of store) (λ id i. none_written none (g.region id)) ∙ sym (empty none (is_shown removed key) refl)
+    | inr w ↦ one_made (λ id. shown_of g key (g.region id)) w.id (ids_of store) (ids_ascend store) (inv.whole.known w.id w.r w.here) (others_hide w) ∙ (it_shows w ∙ held w (is_removed w.r.state.mode) refl)
+  ]
+    where
+      removed : List Bounds
+      removed = removed_in g.region (ids_of store)
+
+      empty : history_of g.writes key ≡ [] → (b : Bool) → is_shown removed key ≡ b → history_of (shown removed g.writes) key ≡ []
+      empty none true b = shown_history removed key g.writes b ∙ none
+      empty none false b = hidden_history removed key g.writes b
+
+      held : (w : Held g key) (b : Bool) → is_removed w.r.state.mode ≡ b → (if leaves_map w.r.state.mode then history_of g.writes key else []) ≡ history_of (shown removed g.writes) key
+      held w true b =
+          ap (λ c. if c then history_of g.writes key else []) (leaves_or_removed w.r.state.mode w.unmerged ∙ ap not b)
+          ∙ sym (hidden_history removed key g.writes (ap not (hidden w b (ids_of store) (inv.whole.known w.id w.r w.here))))
+      held w false b =
+          ap (λ c. if c then history_of g.writes key else []) (leaves_or_removed w.r.state.mode w.unmerged ∙ ap not b)
+          ∙ sym (shown_history removed key g.writes (ap not (not_hidden w b (ids_of store))))
+
+  -- ---- endings
+
+  module _ (input : Input) where
+    none_left : (ids : List ℕ) (es : List Ending) → Along input store g ids es → ((id : ℕ) → IsAmong id ids → shown_of g key (g.region id) ≡ [])
+        → (k : ℕ) (e : Ending) → slice_get es k ≡ Some e → items_left e key ≡ []
+    none_left [] [] h none k e there = absurd cc
+    none_left [] (x ∷ es) h none k e there = absurd h
+    none_left (id ∷ ids) es h none k e there = go (g.region id) (none id (inl refl)) es h k there (λ fs a j t. none_left ids fs a (λ x i. none x (inr i)) j e t)
+      where
+        go : (o : Option Made) → shown_of g key o ≡ [] → (es : List Ending) → Beside input store g id o (Along input store g ids) es → (k : ℕ) → slice_get es k ≡ Some e
+            → ((fs : List Ending) → Along input store g ids fs → (j : ℕ) → slice_get fs j ≡ Some e → items_left e key ≡ []) → items_left e key ≡ []
+        go None first es h k there more = more es h k there
+        go (Some r) first [] h k there more = absurd h
+        go (Some r) first (x ∷ es) h zero there more = (let same : x ≡ e = cc there in ap (λ z. items_left z key) (sym same) ∙ (h.0.items key ∙ first))
+        go (Some r) first (x ∷ es) h (suc k) there more = more es h.1 k there
+
+    -- only one of the endings leaves items of the key
+    abbrev pub LeftOnce : List Ending → Type 0
+    LeftOnce es = (i : ℕ) × ((k : ℕ) (e : Ending) → (k ≡ i → ⊥) → slice_get es k ≡ Some e → items_left e key ≡ [])
+
+    once_along : (x : ℕ) → ((id : ℕ) → (id ≡ x → ⊥) → shown_of g key (g.region id) ≡ []) → (ids : List ℕ) → Ascend ids → (es : List Ending) → Along input store g ids es → LeftOnce es
+    once_along x others [] ascend [] h = (0, λ k e ne there. absurd cc)
+    once_along x others [] ascend (e ∷ es) h = absurd h
+    once_along x others (id ∷ ids) ascend es h = go (g.region id) refl es h (once_along x others ids ascend.1)
+      where
+        first : (r : Made) → g.region id ≡ Some r → (e : Ending) (es : List Ending) → Says input store g id r e → Along input store g ids es → LeftOnce es → LeftOnce (e ∷ es)
+        first r made e es says h rest = elim (cases_eq id x) [
+          | inl p ↦ (0, λ k y ne there. behind k y ne there (λ y i. others y (λ q. behind_first y id ids ascend i (q ∙ sym p))))
+          | inr ne ↦ (suc rest.0, λ k y other there. either ne k y other there)
+        ]
+          where
+            behind : (k : ℕ) (y : Ending) → (k ≡ 0 → ⊥) → slice_get (e ∷ es) k ≡ Some y → ((z : ℕ) → IsAmong z ids → shown_of g key (g.region z) ≡ []) → items_left y key ≡ []
+            behind zero y ne there none = absurd (ne refl)
+            behind (suc k) y ne there none = none_left ids es h none k y there
+
+            either : (id ≡ x → ⊥) → (k : ℕ) (y : Ending) → (k ≡ suc rest.0 → ⊥) → slice_get (e ∷ es) k ≡ Some y → items_left y key ≡ []
+            either ne zero y other there =
+                (let same : e ≡ y = cc there in ap (λ z. items_left z key) (sym same) ∙ (says.items key ∙ (ap (shown_of g key) (sym made) ∙ others id ne)))
+            either ne (suc k) y other there = rest.1 k y (λ q. other (ap (λ n. suc n) q)) there
+
+        go : (o : Option Made) → g.region id ≡ o → (es : List Ending) → Beside input store g id o (Along input store g ids) es → ((fs : List Ending) → Along input store g ids fs → LeftOnce fs) → LeftOnce es
+        go None none es h more = more es h
+        go (Some r) made [] h more = absurd h
+        go (Some r) made (e ∷ es) h more = first r made e es h.0 h.1 (more es h.1)
+
+    left_once : (es : List Ending) → Along input store g (ids_of store) es → LeftOnce es
+    left_once es h = elim (inv.whole.kept key) [
+      | inl none ↦ (0, λ k e ne there. none_left (ids_of store) es h (λ id i. none_written none (g.region id)) k e there)
+      | inr w ↦ once_along w.id (others_hide w) (ids_of store) (ids_ascend store) es h
+    ]
+
+    front_none : (es : List Ending) (k : ℕ) → ((j : ℕ) (e : Ending) → j < k → slice_get es j ≡ Some e → items_left e key ≡ []) → items_of_all (take k es) key ≡ []
+    front_none [] zero none = refl
+    front_none [] (suc k) none = refl
+    front_none (e ∷ es) zero none = refl
+    front_none (e ∷ es) (suc k) none =
+        ap (λ is. is ++ items_of_all (take k es) key) (none 0 e (omega arith) refl) ∙ front_none es k (λ j y lt there. none (suc j) y (omega (arith, lt)) there)
+
+    -- an ending and those before it leave no items of one key
+    pub apart_from_front : (es : List Ending) → Along input store g (ids_of store) es → (k : ℕ) (e : Ending) → slice_get es k ≡ Some e
+        → (items_of_all (take k es) key ≡ []) ⊎ (items_left e key ≡ [])
+    apart_from_front es h k e there =
+        let w = left_once es h in
+        elim (cases_eq k w.0) [
+          | inl p ↦ inl (front_none es k (λ j y lt at. w.1 j y (λ q. omega (arith, lt, p, q)) at))
+          | inr ne ↦ inr (w.1 k e ne there)
+        ]

@@ -1,0 +1,10 @@
+pub mod Alongside
+pub mod EndingLaws
+pub mod HeldLaws
+pub mod Histories
+pub mod LeftItems
+pub mod ReadOff
+pub mod ReadSteps
+pub mod Slots
+pub mod StorePlaces
+pub mod StoreRows

@@ -1,0 +1,17 @@
+use Rattle.std.proofs.Common.{◌∙◌, ap, sym, subst}
+use Rattle.rs_meta.specs.Addresses.{count_on, first_of}
+use Rattle.rs_meta.specs.Held.{AreOwn}
+use Rattle.rs_meta.specs.Readings.{AreEndings}
+use Rattle.rs_meta.proofs.HeldLaws.{all_endings}
+use Rattle.rs_meta.proofs.machine.StoreFsm.into_outcome.Goals as goal
+
+pub read_off-requires-clause-endings : goal.read_off-requires-clause-endings
+read_off-requires-clause-endings c =
+    let self = c.args.self in
+    let input = self.plan.now in
+    let endings = self.endings in
+    let slots = endings.slots.items in
+    let begins = endings.begins ∙ (ap (λ p. first_of p.now endings.place) self.of_plan ∙ ap (first_of input) self.of_place) in
+    let counted = endings.counted ∙ (ap (λ p. count_on p.now endings.place) self.of_plan ∙ ap (count_on input) self.of_place) in
+    let own = subst (λ p. AreOwn p.now endings.first slots) self.of_plan endings.own in
+    subst (AreEndings input self.place) (sym c.in_ok-endings.ensures) (all_endings input self.place endings.first slots begins counted own c.requires.complete)

@@ -1,0 +1,4 @@
+pub mod Addresses
+pub mod Held
+pub mod Machines
+pub mod Readings

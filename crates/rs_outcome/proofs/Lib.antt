@@ -1,0 +1,6 @@
+pub mod Ascending
+pub mod HistoryLaws
+pub mod RepliesById
+pub mod ReplyLaws
+pub mod SameOutcomes
+pub mod ShownHistories
