@@ -1,0 +1,31 @@
+pub mod Pairs
+pub mod Places
+pub mod Counts
+pub mod Ascending
+pub mod PlanReshapings
+pub mod PlanMoves
+pub mod Cutting
+pub mod NeedLists
+pub mod Addressing
+pub mod Between
+pub mod Splits
+pub mod Births
+pub mod Removals
+pub mod Sources
+pub mod Greatest
+pub mod Tables
+pub mod CutRows
+pub mod Moving
+pub mod Forms
+pub mod Openings
+pub mod StepTables
+pub mod Full
+pub mod RangeSteps
+pub mod StepRanges
+pub mod CutLaws
+pub mod Owners
+mod InputLaws
+mod WorkedCases
+pub mod RowOrder
+pub mod Spans
+pub mod TableLists

@@ -1,0 +1,114 @@
+ghost use Rattle.std.specs.Prelude.{◌≡◌, ◌||◌, ◌&&◌, ◌↔◌, ℕ, true, false, IsTrue, OnOk, OnErr, IfOk, MatchOption};
+ghost use Rattle.rs_region.specs.declared.state.RegionState.{RegionState};
+ghost use Rattle.rs_key.specs.Ranges.{holds};
+ghost use Rattle.rs_order.specs.Stores.{is_live};
+ghost use Rattle.rs_value.specs.Counting.{IsAmong};
+ghost use Rattle.rs_check.specs.Tables.{owner};
+ghost use Rattle.rs_table.specs.Covers.{IsOwner, NoneOwns};
+ghost use Rattle.rs_table.specs.Cuts.{AllTold, AreKnown, IsCut, IsFull, IsGreatest, IsIn, is_known};
+ghost use Rattle.rs_table.specs.Moves.{nothing_covered};
+ghost use Rattle.rs_table.specs.Rows.{IsTable};
+ghost use Rattle.rs_table.specs.Tellings.{has, is_this, nothing, numbers};
+
+use crate::growing::Growing;
+use crate::laws::table_laws;
+use crate::needs::is_on;
+use rs_check::{Plan, RegionTable};
+use rs_key::{Key, NoMemory};
+use std::alloc::Global;
+
+/// What was told of a store, and the table of a cut of it: unless a call met want of memory, of the greatest.
+#[derive(Drop)]
+pub struct StoreTable<'p> {
+    growing: Growing<'p>,
+    /// Whether a call has met want of memory.
+    spent: bool,
+    ghost greatest: { spent ≡ false → IsGreatest growing.plan.now growing.place (has growing.told) (numbers growing.taken.items) },
+}
+
+impl<'p> StoreTable<'p> {
+    ghost use Rattle.rs_table.specs.Views.{cut_of, input_of, place_of, rows_of, told_of};
+
+    /// The table of the store at the place, counted from 0, of which nothing was told.
+    pub fn new(alloc: Global, plan: &'p Plan, place: u32) -> Result<StoreTable<'p>, NoMemory>
+        ensures plan { IfOk result (λ t. t.growing.plan ≡ plan.entry) }
+        ensures place { IfOk result (λ t. place_of t ≡ place) }
+        ensures fresh { IfOk result (λ t. t.spent ≡ false) }
+        ensures told { IfOk result (λ t. told_of t ≡ nothing) }
+        ensures none { IfOk result (λ t. cut_of t ≡ nothing_covered) }
+    {
+        Ok(StoreTable {
+            growing: Growing::new(alloc, plan, place)?,
+            spent: false,
+        })
+    }
+
+    /// Takes to know that the address's nth reshaping, counted from 1, was made: in any order, and as often as may be.
+    ///
+    /// What the plan doesn't have, what is of another store, and what was told already, changes nothing. What can't follow yet is held back.
+    /// After NoMemory the table is that of a cut of what was told, this reshaping too, which contains the cut before;
+    /// every later call answers NoMemory and changes nothing.
+    pub fn tell(&mut self, address: u32, nth: u64) -> Result<(), NoMemory>
+        ensures plan { self.new.growing.plan ≡ self.old.growing.plan }
+        ensures place { place_of self.new ≡ place_of self.old }
+        ensures was { OnOk result (self.old.spent ≡ false) }
+        ensures fresh { OnOk result (self.new.spent ≡ false) }
+        ensures spent { OnErr result (self.new.spent ≡ true) }
+        ensures later { self.old.spent ≡ true → self.new ≡ self.old }
+        ensures unknown { is_known (input_of self.old) (place_of self.old) address nth ≡ false → self.new ≡ self.old }
+        ensures again { told_of self.old address nth ≡ true → self.new ≡ self.old }
+        ensures ok { OnOk result ((a n : ℕ) → told_of self.new a n ≡ told_of self.old a n || (is_this address nth a n && is_known (input_of self.old) (place_of self.old) a n)) }
+        ensures told { (a n : ℕ) → told_of self.new a n ≡ true → (told_of self.old a n || (is_this address nth a n && is_known (input_of self.old) (place_of self.old) a n)) ≡ true }
+        ensures more { IsIn (cut_of self.old) (cut_of self.new) }
+    {
+        if self.spent {
+            return Err(NoMemory);
+        }
+        if !is_known(self.growing.plan, self.growing.place, address, nth) {
+            return Ok(());
+        }
+        if self.growing.told.has(address, nth) {
+            return Ok(());
+        }
+        self.spent = true;
+        self.growing.tell(address, nth)?;
+        self.spent = false;
+        Ok(())
+    }
+
+    /// The states of the regions that the cut has, by id. It takes no memory.
+    pub fn table(&self) -> &RegionTable
+        ensures value { result.now ≡ rows_of self.now }
+        ensures table { IsTable (input_of self.now) (place_of self.now) (cut_of self.now) (rows_of self.now) }
+        ensures cut { IsCut (input_of self.now) (place_of self.now) (cut_of self.now) }
+        ensures known { AreKnown (input_of self.now) (place_of self.now) (told_of self.now) }
+        ensures told { AllTold (told_of self.now) (cut_of self.now) }
+        ensures greatest { self.now.spent ≡ false → IsGreatest (input_of self.now) (place_of self.now) (told_of self.now) (cut_of self.now) }
+    {
+        &self.growing.table
+    }
+
+    /// The live region of the table that holds the key; None exactly where none does. It takes no memory.
+    pub fn find(&self, key: &Key) -> Option<u64>
+        ensures value { result ≡ owner (rows_of self.now) key.now }
+        ensures owner { MatchOption result (NoneOwns (rows_of self.now) key.now) (IsOwner (rows_of self.now) key.now) }
+        ensures alone { (id : ℕ) → IsOwner (rows_of self.now) key.now id → result ≡ Some id }
+    {
+        table_laws(self.growing.plan, self.growing.place);
+        self.growing.table.find(key)
+    }
+
+    /// Whether every reshaping of the store's addresses is in the table. It takes no memory.
+    pub fn is_full(&self) -> bool
+        ensures { IsTrue result ↔ IsFull (input_of self.now) (place_of self.now) (cut_of self.now) }
+    {
+        self.growing.unfinished == 0
+    }
+}
+
+/// Whether the plan has the reshaping, and it is of the store at the place.
+fn is_known(plan: &Plan, place: u32, a: u32, nth: u64) -> bool
+    ensures { result ≡ is_known plan.now place a nth }
+{
+    is_on(plan, place, a) && nth >= 1 && nth <= plan.reshapings(a)
+}
