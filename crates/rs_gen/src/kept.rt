@@ -1,0 +1,8 @@
+/// What a store has of the log of a region that was split off and taken over again.
+#[derive(Clone, Copy)]
+pub enum Kept {
+    /// Each entry.
+    All,
+    /// The first few, by the number and the round, and none in some rounds.
+    Few,
+}
