@@ -1,0 +1,4 @@
+pub mod Fronts
+pub mod Prefixes
+pub mod Reaching
+pub mod WholeOutcomes

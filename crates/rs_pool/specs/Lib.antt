@@ -1,0 +1,4 @@
+pub mod Delivering
+pub mod Outs
+pub mod Routes
+pub mod Stores
