@@ -10,7 +10,8 @@ A case is a folder tests/cases/NAME with the files
     out      what it must write; no file: nothing
     status   the status that it must end with; no file: 0
 
-Cases of large inputs are made here. The last line is 'N passed, N failed'.
+Each case of 'fold' is tried by 'run' too, in three ways, and so is each refusal by 'check': both
+commands answer as the fold does. Cases of large inputs are made here. The last line is 'N passed, N failed'.
 """
 import os
 import subprocess
@@ -24,6 +25,11 @@ ERRORS = {
     7: "raftreplay: input too long\n",
 }
 LIMIT = 64 * 1024 * 1024
+RUNS = [
+    "run",
+    "run --raft-pollers 1 --apply-pollers 1 --batch 1 --chunk 1",
+    "run --chunk 3 --apply-pollers 16 --raft-pollers 16",
+]
 
 
 def content(path, default=b""):
@@ -42,6 +48,15 @@ def cases(folder):
         )
     yield "one-byte-too-long", ["fold"], b"a" * (LIMIT + 1), 7, b""
     yield "as-long-as-allowed", ["fold"], b"a" * LIMIT, 2, b"syntax 1 BadHeader\n"
+
+
+def with_runs(cases):
+    """The cases, and behind each the runs that answer the same."""
+    for name, words, data, status, out in cases:
+        yield name, name, words, data, status, out
+        if words == ["fold"] or (words == ["check"] and status != 0):
+            for run in RUNS:
+                yield name, "%s, by %s" % (name, run), run.split(), data, status, out
 
 
 def run(program, words, data):
@@ -80,9 +95,9 @@ def main():
         print("  wanted %s" % repr(wanted)[:1000])
         print("  got    %s" % repr(got)[:1000])
 
-    for name, words, data, status, out in cases(folder):
+    for name, title, words, data, status, out in with_runs(cases(folder)):
         if not chosen or name in chosen:
-            judge(name, run(program, words, data), (status, out, ERRORS.get(status, "")))
+            judge(title, run(program, words, data), (status, out, ERRORS.get(status, "")))
     if not chosen:
         for name, got, wanted in devices(program):
             judge(name, got, wanted)

@@ -1,14 +1,18 @@
 -- The status and the text that each command is to give on each input.
-use Rattle.std.specs.Prelude.{ℕ, zero, suc, ◌+◌, ◌-◌, nat_lt, if◌then◌else◌, List, [], ◌∷◌, length, Option, Some, None, Result, Ok, Err}
+use Rattle.std.specs.Prelude.{ℕ, zero, suc, ◌+◌, ◌-◌, nat_lt, Bool, true, false, if◌then◌else◌, List, [], ◌∷◌, length, sum_by, Option, Some, None, Result, Ok, Err}
 use Rattle.rs_field.specs.Forms.{word, number, line_text}
 use Rattle.rs_entry.specs.declared.input.Input.{Input}
 use Rattle.rs_text.specs.Reading.{Fault, read_text}
+use Rattle.rs_entry.specs.declared.outcome.Outcome.{Outcome}
+use Rattle.rs_entry.specs.declared.outcome.StoreOutcome.{StoreOutcome}
 use Rattle.rs_entry.specs.declared.law_fault.LawFault.{LawFault}
 use Rattle.rs_text.specs.FaultTexts.{syntax_text, fault_text}
 use Rattle.rs_check.specs.Laws.{check}
 use Rattle.rs_check.specs.Plans.{rows_of, stop_of}
+use Rattle.rs_text.specs.Logs.{text_of}
 use Rattle.rs_text.specs.Outcomes.{outcome_text, history_text}
-use Rattle.rs_fold.specs.Outcomes.{outcome_of}
+use Rattle.rs_outcome.specs.Outcomes.{outcome_of}
+use Rattle.rs_gen.specs.Inputs.{made_of}
 use Rattle.raftreplay.specs.Words.{command_of}
 use Rattle.raftreplay.specs.declared.status.Status.{Status}
 use Rattle.raftreplay.specs.declared.status.Status.TheVariants as status
@@ -24,7 +28,7 @@ pub record Answer : Type 0 where
 abbrev pub limit : ℕ
 limit = 67108864
 
--- ---- on lawful logs: a row for each command
+-- ---- how much lawful logs are
 
 -- how many entries the first addresses apply: each applies those from 6 to its stop index
 abbrev pub applied_below : Input → ℕ → ℕ
@@ -39,32 +43,75 @@ applied_entries x = applied_below x (length (rows_of x))
 abbrev pub lawful_text : Input → List ℕ
 lawful_text x = line_text (word "lawful" ∷ number (length x.stores) ∷ number (length (rows_of x)) ∷ number (applied_entries x) ∷ [])
 
--- `check`, `fold`, `history KEY`
-abbrev pub command_text : Command → Input → List ℕ
-command_text commands.Check x = lawful_text x
-command_text commands.Fold x = outcome_text (outcome_of x)
-command_text (commands.History key) x = history_text (outcome_of x) key
+-- ---- how much an outcome tells of
 
--- ---- on words and bytes
+-- how many regions, over all stores
+abbrev pub region_count : Outcome → ℕ
+region_count outcome = sum_by (λ s. length s.regions) outcome.stores
 
--- on logs and what their check gives: the first fault, or none
-abbrev pub checked_answer : Command → Input → Option LawFault → Answer
-checked_answer c x (Some fault) = record { status = status.Unlawful; text = fault_text fault }
-checked_answer c x None = record { status = status.Done; text = command_text c x }
+-- how many entries the regions of a store applied, the first of which has the index 6
+abbrev pub store_entries : StoreOutcome → ℕ
+store_entries store = sum_by (λ r. r.applied - 5) store.regions
 
-abbrev pub input_answer : Command → Input → Answer
-input_answer c x = checked_answer c x (check x)
+abbrev pub entry_count : Outcome → ℕ
+entry_count outcome = sum_by store_entries outcome.stores
+
+-- how many single writes a store accepted: each is an item of one history
+abbrev pub store_writes : StoreOutcome → ℕ
+store_writes store = sum_by (λ h. length h.items) store.histories
+
+abbrev pub write_count : Outcome → ℕ
+write_count outcome = sum_by store_writes outcome.stores
+
+-- `selftest N equal STORES ADDRESSES ENTRIES WRITES`
+abbrev pub counts_text : ℕ → Outcome → List ℕ
+counts_text n outcome = line_text (word "selftest" ∷ number n ∷ word "equal" ∷ number (length outcome.stores) ∷ number (region_count outcome) ∷ number (entry_count outcome) ∷ number (write_count outcome) ∷ [])
+
+-- ---- on the bytes that a command reads
+
+-- lawful logs, or the answer that refuses them
+abbrev pub Reading : Type 0
+Reading = Result Input Answer
+
+-- on what the check of logs gives: the first fault, or none
+abbrev pub checked : Input → Option LawFault → Reading
+checked x (Some fault) = Err (record { status = status.Unlawful; text = fault_text fault })
+checked x None = Ok x
 
 -- on what reading a text gives: its logs, or its first fault
-abbrev pub read_answer : Command → Result Input Fault → Answer
-read_answer c (Ok x) = input_answer c x
-read_answer c (Err fault) = record { status = status.Syntax; text = syntax_text fault.0 fault.1 }
+abbrev pub read : Result Input Fault → Reading
+read (Ok x) = checked x (check x)
+read (Err fault) = Err (record { status = status.Syntax; text = syntax_text fault.0 fault.1 })
 
 -- on bytes
-unfoldable pub answer_of : Command → List ℕ → Answer
-answer_of c bytes =
-    if nat_lt limit (length bytes) then record { status = status.TooLong; text = [] }
-    else read_answer c (read_text bytes)
+unfoldable pub reading_of : List ℕ → Reading
+reading_of bytes =
+    if nat_lt limit (length bytes) then Err (record { status = status.TooLong; text = [] })
+    else read (read_text bytes)
+
+-- ---- answers
+
+abbrev pub done : List ℕ → Answer
+done text = record { status = status.Done; text = text }
+
+-- the text for lawful logs, or the answer that refuses them
+abbrev pub answered : (Input → List ℕ) → Reading → Answer
+answered text (Ok x) = done (text x)
+answered text (Err refusal) = refusal
+
+abbrev pub on_logs : (Input → List ℕ) → List ℕ → Answer
+on_logs text bytes = answered text (reading_of bytes)
+
+-- A row for each command: its answer on bytes. The options of a run don't occur in its text.
+abbrev pub answer_of : Command → List ℕ → Answer
+answer_of commands.Check bytes = on_logs lawful_text bytes
+answer_of commands.Fold bytes = on_logs (λ x. outcome_text (outcome_of x)) bytes
+answer_of (commands.History key) bytes = on_logs (λ x. history_text (outcome_of x) key) bytes
+answer_of (commands.Run options) bytes = on_logs (λ x. outcome_text (outcome_of x)) bytes
+answer_of (commands.Gen n) bytes = done (text_of (made_of n))
+answer_of (commands.SelfTest n options) bytes = done (counts_text n (outcome_of (made_of n)))
+
+-- ---- on words and bytes
 
 abbrev pub command_answer : Option Command → List ℕ → Answer
 command_answer None bytes = record { status = status.Usage; text = [] }
@@ -73,3 +120,29 @@ command_answer (Some c) bytes = answer_of c bytes
 -- on words and bytes
 abbrev pub expected : List (List ℕ) → List ℕ → Answer
 expected words bytes = command_answer (command_of words) bytes
+
+-- ---- which words read
+
+-- whether a command reads its source
+abbrev pub reads : Command → Bool
+reads commands.Check = true
+reads commands.Fold = true
+reads (commands.History key) = true
+reads (commands.Run options) = true
+reads (commands.Gen n) = false
+reads (commands.SelfTest n options) = false
+
+-- words that are no command read nothing
+abbrev pub reads_any : Option Command → Bool
+reads_any None = false
+reads_any (Some c) = reads c
+
+-- whether the words have their source read
+abbrev pub is_read : List (List ℕ) → Bool
+is_read words = reads_any (command_of words)
+
+-- The bytes that the answer is about, where they are told: those left in the source. An answer for which
+-- nothing is read is the same on all bytes, so no bytes will do.
+abbrev pub bytes_for : Bool → Option (List ℕ) → Option (List ℕ)
+bytes_for true left = left
+bytes_for false left = Some []

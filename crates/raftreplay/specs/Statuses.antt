@@ -28,3 +28,19 @@ IsSilent status.ReadFault = Unit {0}
 IsSilent status.NoMemory = Unit {0}
 IsSilent status.TooLong = Unit {0}
 IsSilent _ = ⊥
+
+-- a status by which logs are refused
+abbrev pub IsRefusal : Status → Type 0
+IsRefusal status.Syntax = Unit {0}
+IsRefusal status.Unlawful = Unit {0}
+IsRefusal status.ReadFault = Unit {0}
+IsRefusal status.NoMemory = Unit {0}
+IsRefusal status.TooLong = Unit {0}
+IsRefusal _ = ⊥
+
+-- a status of a command that reads nothing
+abbrev pub IsUnread : Status → Type 0
+IsUnread status.Done = Unit {0}
+IsUnread status.WriteFault = Unit {0}
+IsUnread status.NoMemory = Unit {0}
+IsUnread _ = ⊥

@@ -1,203 +1,222 @@
-ghost use Rattle.std.specs.Prelude.{◌≡◌, ◌≤◌, ◌↔◌, ℕ, [], Some, None, length, IfOk, IfSome};
+ghost use Rattle.std.specs.Prelude.{◌≡◌, ◌≤◌, ◌<◌, ◌^◌, ◌↔◌, [], true, false, Some, None, length, IfOk, IfSome};
 ghost use Rattle.rs_base.specs.Counts.{Rose};
-ghost use Rattle.rs_entry.specs.WellFormed.{WellFormed};
-ghost use Rattle.raftreplay.specs.Statuses.{IsWritten, IsSilent};
-ghost use Rattle.raftreplay.specs.Expected.{expected, answer_of, input_answer, command_text, limit};
-ghost use Rattle.raftreplay.specs.Kept.{KeepsTo, IsExpected};
+ghost use Rattle.rs_text.specs.Logs.{text_of};
+ghost use Rattle.rs_text.specs.Outcomes.{outcome_text, history_text};
+ghost use Rattle.rs_outcome.specs.Outcomes.{outcome_of};
+ghost use Rattle.rs_gen.specs.Inputs.{made_of};
+ghost use Rattle.raftreplay.specs.Statuses.{IsWritten, IsSilent, IsUnread};
+ghost use Rattle.raftreplay.specs.Expected.{expected, answer_of, counts_text, is_read, bytes_for, done};
+ghost use Rattle.raftreplay.specs.Kept.{KeepsTo, IsExpected, Wrote, Obeyed};
 ghost use Rattle.raftreplay.specs.Words.{command_of, bytes_of};
 
+use crate::answer::finish;
+use crate::counting::write_counts;
 use crate::lawful::write_lawful;
+use crate::reading::lawful_logs;
 use crate::status::Status;
 use crate::words::{Command, command_of};
-use rs_base::{ReadError, Sink, Source, WriteFault, read_all, write_all};
+use rs_base::{Gate, Sink, Source};
 use rs_check::{CheckError, Plan, check};
-use rs_entry::Input;
+use rs_engine::{Options, run};
 use rs_fold::fold;
-use rs_key::{Key, NoMemory, TryClone};
-use rs_text::{TextError, read_logs, write_fault, write_history, write_outcome, write_syntax};
+use rs_gen::make;
+use rs_key::{Key, NoMemory};
+use rs_text::{write_history, write_logs, write_outcome};
 use std::alloc::Global;
-
-/// The greatest length of an input, in bytes.
-const LIMIT: usize = 67_108_864;
-
-/// The status and the text that a command gives on the bytes of a source.
-#[tactic(auto, unfolding(crate::specs::Expected::answer_of))]
-fn answer(alloc: Global, command: &Command, bytes: &[u8]) -> Result<(Status, Vec<u8>), NoMemory>
-    requires { length bytes.now ≤ limit }
-    ensures answer { IfOk result (λ a. answer_of command.now bytes.now ≡ record { status = a.0; text = a.1.items }) }
-    ensures written { IfOk result (λ a. IsWritten a.0) }
-{
-    match read_logs(alloc, bytes) {
-        Err(TextError::NoMemory) => Err(NoMemory),
-        Err(TextError::Fault { line, kind }) => {
-            let text = write_syntax(alloc, line, kind)?;
-            Ok((Status::Syntax, text))
-        }
-        Ok(input) => Ok(input_answer(alloc, command, input)?),
-    }
-}
-
-/// The status and the text that a command gives on logs.
-fn input_answer(
-    alloc: Global,
-    command: &Command,
-    input: Input,
-) -> Result<(Status, Vec<u8>), NoMemory>
-    requires { WellFormed input }
-    ensures answer { IfOk result (λ a. input_answer command.now input ≡ record { status = a.0; text = a.1.items }) }
-    ensures written { IfOk result (λ a. IsWritten a.0) }
-{
-    match check(input) {
-        Err(CheckError::NoMemory) => Err(NoMemory),
-        Err(CheckError::Law(fault)) => {
-            let text = write_fault(alloc, &fault)?;
-            Ok((Status::Unlawful, text))
-        }
-        Ok(plan) => {
-            let text = command_text(alloc, command, &plan)?;
-            Ok((Status::Done, text))
-        }
-    }
-}
-
-/// The text that a command gives on lawful logs.
-fn command_text(alloc: Global, command: &Command, plan: &Plan) -> Result<Vec<u8>, NoMemory>
-    ensures { IfOk result (λ text. text.items ≡ command_text command.now plan.now) }
-{
-    match command {
-        Command::Check => Ok(write_lawful(alloc, plan)?),
-        Command::Fold => {
-            let outcome = fold(alloc, plan)?;
-            Ok(write_outcome(alloc, &outcome)?)
-        }
-        Command::History(key) => {
-            let outcome = fold(alloc, plan)?;
-            Ok(write_history(alloc, &outcome, key)?)
-        }
-    }
-}
-
-/// Reads a source to its end, and writes what the command gives on its bytes.
-fn run<S: Source, K: Sink>(alloc: Global, command: &Command, source: &mut S, sink: &mut K) -> Status
-    ensures kept { IfSome (S.left source.old) (λ bytes. KeepsTo (answer_of command.now bytes) result (K.taken sink.old) (K.taken sink.new)) }
-    ensures silent { IsSilent result → sink.new ≡ sink.old }
-    ensures to_end { IsWritten result → IfSome (S.left source.old) (λ _. S.left source.new ≡ Some []) }
-
-    // A failed read, or a failed write, comes only where one failed in this call. Where none did, the
-    // status is the expected one, or memory ran out.
-    ensures read_fault { result ≡ Status.ReadFault → Rose (S.faults source.old) (S.faults source.new) }
-    ensures write_fault { result ≡ Status.WriteFault → Rose (K.faults sink.old) (K.faults sink.new) }
-    ensures complete { ¬ Rose (S.faults source.old) (S.faults source.new) → ¬ Rose (K.faults sink.old) (K.faults sink.new)
-        → IfSome (S.left source.old) (λ bytes. IsExpected (answer_of command.now bytes) result) }
-
-    ensures not_usage { result ≡ Status.Usage → ⊥ }
-    ensures kept_read_faults { S.faults source.old ≤ S.faults source.new }
-    ensures kept_write_faults { K.faults sink.old ≤ K.faults sink.new }
-{
-    let bytes = match read_all(alloc, source, LIMIT) {
-        Ok(bytes) => bytes,
-        Err(ReadError::ReadFault) => return Status::ReadFault,
-        Err(ReadError::TooLong) => return Status::TooLong,
-        Err(ReadError::NoMemory) => return Status::NoMemory,
-    };
-    match answer(alloc, command, &bytes) {
-        Err(NoMemory) => Status::NoMemory,
-        Ok((status, text)) => match write_all(sink, &text) {
-            Ok(()) => status,
-            Err(WriteFault) => Status::WriteFault,
-        },
-    }
-}
+use std::sync::Wait;
+use std::thread::Threads;
 
 /// Writes whether the logs that the source gives are lawful, and how much they are.
+#[tactic(auto, using(crate::proofs::Obeying::refused_obeyed))]
 pub fn check_command<S: Source, K: Sink>(alloc: Global, source: &mut S, sink: &mut K) -> Status
-    ensures kept { IfSome (S.left source.old) (λ bytes. KeepsTo (answer_of Command.Check bytes) result (K.taken sink.old) (K.taken sink.new)) }
-    ensures silent { IsSilent result → sink.new ≡ sink.old }
-    ensures to_end { IsWritten result → IfSome (S.left source.old) (λ _. S.left source.new ≡ Some []) }
-
-    // A failed read, or a failed write, comes only where one failed in this call. Where none did, the
-    // status is the expected one, or memory ran out.
-    ensures read_fault { result ≡ Status.ReadFault → Rose (S.faults source.old) (S.faults source.new) }
-    ensures write_fault { result ≡ Status.WriteFault → Rose (K.faults sink.old) (K.faults sink.new) }
-    ensures complete { ¬ Rose (S.faults source.old) (S.faults source.new) → ¬ Rose (K.faults sink.old) (K.faults sink.new)
-        → IfSome (S.left source.old) (λ bytes. IsExpected (answer_of Command.Check bytes) result) }
-
-    ensures not_usage { result ≡ Status.Usage → ⊥ }
-    ensures kept_read_faults { S.faults source.old ≤ S.faults source.new }
-    ensures kept_write_faults { K.faults sink.old ≤ K.faults sink.new }
+    ensures { Obeyed S.left S.faults K.taken K.faults Command.Check result source.old source.new sink.old sink.new }
 {
-    run(alloc, &Command::Check, source, sink)
+    match lawful_logs(alloc, source) {
+        Ok(plan) => finish(alloc, write_lawful(alloc, &plan), sink),
+        Err(refusal) => refusal.write(sink),
+    }
 }
 
 /// Writes what comes of the logs that the source gives.
+#[tactic(auto, using(crate::proofs::Obeying::refused_obeyed))]
 pub fn fold_command<S: Source, K: Sink>(alloc: Global, source: &mut S, sink: &mut K) -> Status
-    ensures kept { IfSome (S.left source.old) (λ bytes. KeepsTo (answer_of Command.Fold bytes) result (K.taken sink.old) (K.taken sink.new)) }
-    ensures silent { IsSilent result → sink.new ≡ sink.old }
-    ensures to_end { IsWritten result → IfSome (S.left source.old) (λ _. S.left source.new ≡ Some []) }
-
-    // A failed read, or a failed write, comes only where one failed in this call. Where none did, the
-    // status is the expected one, or memory ran out.
-    ensures read_fault { result ≡ Status.ReadFault → Rose (S.faults source.old) (S.faults source.new) }
-    ensures write_fault { result ≡ Status.WriteFault → Rose (K.faults sink.old) (K.faults sink.new) }
-    ensures complete { ¬ Rose (S.faults source.old) (S.faults source.new) → ¬ Rose (K.faults sink.old) (K.faults sink.new)
-        → IfSome (S.left source.old) (λ bytes. IsExpected (answer_of Command.Fold bytes) result) }
-
-    ensures not_usage { result ≡ Status.Usage → ⊥ }
-    ensures kept_read_faults { S.faults source.old ≤ S.faults source.new }
-    ensures kept_write_faults { K.faults sink.old ≤ K.faults sink.new }
+    ensures { Obeyed S.left S.faults K.taken K.faults Command.Fold result source.old source.new sink.old sink.new }
 {
-    run(alloc, &Command::Fold, source, sink)
+    match lawful_logs(alloc, source) {
+        Ok(plan) => finish(alloc, folded(alloc, &plan), sink),
+        Err(refusal) => refusal.write(sink),
+    }
+}
+
+/// The text of the fold.
+fn folded(alloc: Global, plan: &Plan) -> Result<Vec<u8>, NoMemory>
+    ensures { IfOk result (λ text. text.items ≡ outcome_text (outcome_of plan.now)) }
+{
+    let outcome = fold(alloc, plan)?;
+    write_outcome(alloc, &outcome)
 }
 
 /// Writes, for each store, the writes of the key in their order.
+#[tactic(auto, using(crate::proofs::Obeying::refused_obeyed))]
 pub fn history_command<S: Source, K: Sink>(
     alloc: Global,
     key: &Key,
     source: &mut S,
     sink: &mut K,
 ) -> Status
-    ensures kept { IfSome (S.left source.old) (λ bytes. KeepsTo (answer_of (Command.History key.now) bytes) result (K.taken sink.old) (K.taken sink.new)) }
-    ensures silent { IsSilent result → sink.new ≡ sink.old }
-    ensures to_end { IsWritten result → IfSome (S.left source.old) (λ _. S.left source.new ≡ Some []) }
-
-    // A failed read, or a failed write, comes only where one failed in this call. Where none did, the
-    // status is the expected one, or memory ran out.
-    ensures read_fault { result ≡ Status.ReadFault → Rose (S.faults source.old) (S.faults source.new) }
-    ensures write_fault { result ≡ Status.WriteFault → Rose (K.faults sink.old) (K.faults sink.new) }
-    ensures complete { ¬ Rose (S.faults source.old) (S.faults source.new) → ¬ Rose (K.faults sink.old) (K.faults sink.new)
-        → IfSome (S.left source.old) (λ bytes. IsExpected (answer_of (Command.History key.now) bytes) result) }
-
-    ensures not_usage { result ≡ Status.Usage → ⊥ }
-    ensures kept_read_faults { S.faults source.old ≤ S.faults source.new }
-    ensures kept_write_faults { K.faults sink.old ≤ K.faults sink.new }
+    ensures { Obeyed S.left S.faults K.taken K.faults (Command.History key.now) result source.old source.new sink.old sink.new }
 {
-    match key.try_clone() {
-        Err(NoMemory) => Status::NoMemory,
-        Ok(key) => run(alloc, &Command::History(key), source, sink),
+    match lawful_logs(alloc, source) {
+        Ok(plan) => finish(alloc, history_of(alloc, &plan, key), sink),
+        Err(refusal) => refusal.write(sink),
     }
 }
 
-/// Does all that the program does.
-pub fn command<S: Source, K: Sink>(
+/// The text of the key's history.
+fn history_of(alloc: Global, plan: &Plan, key: &Key) -> Result<Vec<u8>, NoMemory>
+    ensures { IfOk result (λ text. text.items ≡ history_text (outcome_of plan.now) key.now) }
+{
+    let outcome = fold(alloc, plan)?;
+    write_history(alloc, &outcome, key)
+}
+
+/// Writes what pollers make of the logs that the source gives: the text of the fold. It waits for its workers.
+#[tactic(auto, using(crate::proofs::Obeying::refused_obeyed))]
+pub fn run_command<R: Threads + Wait + Sync, S: Source, K: Sink, G: Gate>(
+    rt: &R,
+    alloc: Global,
+    options: Options,
+    source: &mut S,
+    sink: &mut K,
+    gate: &G,
+) -> Status
+    ensures { Obeyed S.left S.faults K.taken K.faults (Command.Run options) result source.old source.new sink.old sink.new }
+{
+    match lawful_logs(alloc, source) {
+        Ok(plan) => finish(
+            alloc,
+            made_by_pollers(rt, alloc, &plan, options, gate),
+            sink,
+        ),
+        Err(refusal) => refusal.write(sink),
+    }
+}
+
+/// The text of a run.
+fn made_by_pollers<R: Threads + Wait + Sync, G: Gate>(
+    rt: &R,
+    alloc: Global,
+    plan: &Plan,
+    options: Options,
+    gate: &G,
+) -> Result<Vec<u8>, NoMemory>
+    ensures { IfOk result (λ text. text.items ≡ outcome_text (outcome_of plan.now)) }
+{
+    let outcome = run(rt, alloc, plan, options, gate)?;
+    write_outcome(alloc, &outcome)
+}
+
+/// Writes the logs that a number makes, with status Done, WriteFault or NoMemory.
+pub fn gen_command<K: Sink>(alloc: Global, n: u64, sink: &mut K) -> Status
+    ensures wrote { Wrote K.taken K.faults (done (text_of (made_of n))) result sink.old sink.new }
+    ensures unread { IsUnread result }
+{
+    finish(alloc, generated(alloc, n), sink)
+}
+
+/// The text of the logs that a number makes.
+fn generated(alloc: Global, n: u64) -> Result<Vec<u8>, NoMemory>
+    ensures { IfOk result (λ text. text.items ≡ text_of (made_of n)) }
+{
+    let input = make(alloc, n)?;
+    write_logs(alloc, &input)
+}
+
+/// Runs pollers on the logs that a number makes, and writes the counts of what came of them, with status Done,
+/// WriteFault or NoMemory. It waits for its workers.
+pub fn selftest_command<R: Threads + Wait + Sync, K: Sink, G: Gate>(
+    rt: &R,
+    alloc: Global,
+    n: u64,
+    options: Options,
+    sink: &mut K,
+    gate: &G,
+) -> Status
+    ensures wrote { Wrote K.taken K.faults (done (counts_text n (outcome_of (made_of n)))) result sink.old sink.new }
+    ensures unread { IsUnread result }
+{
+    finish(alloc, self_tested(rt, alloc, n, options, gate), sink)
+}
+
+/// The line of a self-test.
+#[tactic(auto, using(crate::proofs::TwoStores::as_many_stores))]
+fn self_tested<R: Threads + Wait + Sync, G: Gate>(
+    rt: &R,
+    alloc: Global,
+    n: u64,
+    options: Options,
+    gate: &G,
+) -> Result<Vec<u8>, NoMemory>
+    ensures { IfOk result (λ text. text.items ≡ counts_text n (outcome_of (made_of n))) }
+{
+    let input = make(alloc, n)?;
+    let plan = match check(input) {
+        Ok(plan) => plan,
+        Err(CheckError::NoMemory) => return Err(NoMemory),
+        Err(CheckError::Law(_)) => unreachable!(),
+    };
+    let outcome = run(rt, alloc, &plan, options, gate)?;
+    write_counts(alloc, n, &outcome)
+}
+
+/// Does what a command says.
+#[tactic(auto, using(crate::proofs::Obeying::unread_obeyed))]
+fn obey<R: Threads + Wait + Sync, S: Source, K: Sink, G: Gate>(
+    rt: &R,
+    alloc: Global,
+    command: &Command,
+    source: &mut S,
+    sink: &mut K,
+    gate: &G,
+) -> Status
+    ensures { Obeyed S.left S.faults K.taken K.faults command.now result source.old source.new sink.old sink.new }
+{
+    match command {
+        Command::Check => check_command(alloc, source, sink),
+        Command::Fold => fold_command(alloc, source, sink),
+        Command::History(key) => history_command(alloc, key, source, sink),
+        Command::Run(options) => run_command(rt, alloc, *options, source, sink, gate),
+        Command::Gen(n) => gen_command(alloc, *n, sink),
+        Command::SelfTest(n, options) => selftest_command(rt, alloc, *n, *options, sink, gate),
+    }
+}
+
+/// Does all that the program does. The words are those after the program's name. A worker passes the gate before
+/// it handles a machine.
+///
+/// `run` and `selftest` wait for their workers, so nothing says that the call returns with them.
+pub fn command<R: Threads + Wait + Sync, S: Source, K: Sink, G: Gate>(
+    rt: &R,
     alloc: Global,
     words: &[String],
     source: &mut S,
     sink: &mut K,
+    gate: &G,
 ) -> Status
-    ensures kept { IfSome (S.left source.old) (λ bytes. KeepsTo (expected (bytes_of words.now) bytes) result (K.taken sink.old) (K.taken sink.new)) }
+    ensures kept { IfSome (bytes_for (is_read (bytes_of words.now)) (S.left source.old)) (λ bytes. KeepsTo (expected (bytes_of words.now) bytes) result (K.taken sink.old) (K.taken sink.new)) }
     ensures silent { IsSilent result → sink.new ≡ sink.old }
-    ensures to_end { IsWritten result → IfSome (S.left source.old) (λ _. S.left source.new ≡ Some []) }
+
+    // Words that are no command are refused before anything is read, and so it is with commands that need no logs.
+    ensures to_end { is_read (bytes_of words.now) ≡ true → IsWritten result → IfSome (S.left source.old) (λ _. S.left source.new ≡ Some []) }
+    ensures nothing_read { is_read (bytes_of words.now) ≡ false → source.new ≡ source.old }
+    ensures usage { (result ≡ Status.Usage) ↔ (command_of (bytes_of words.now) ≡ None) }
 
     // A failed read, or a failed write, comes only where one failed in this call. Where none did, the
     // status is the expected one, or memory ran out.
     ensures read_fault { result ≡ Status.ReadFault → Rose (S.faults source.old) (S.faults source.new) }
     ensures write_fault { result ≡ Status.WriteFault → Rose (K.faults sink.old) (K.faults sink.new) }
-    ensures complete { ¬ Rose (S.faults source.old) (S.faults source.new) → ¬ Rose (K.faults sink.old) (K.faults sink.new)
-        → IfSome (S.left source.old) (λ bytes. IsExpected (expected (bytes_of words.now) bytes) result) }
-
-    // Words that are no command are refused before anything is read.
-    ensures usage { (result ≡ Status.Usage) ↔ (command_of (bytes_of words.now) ≡ None) }
-    ensures nothing_read { command_of (bytes_of words.now) ≡ None → source.new ≡ source.old }
+    ensures complete { (is_read (bytes_of words.now) ≡ true → ¬ Rose (S.faults source.old) (S.faults source.new)) → ¬ Rose (K.faults sink.old) (K.faults sink.new)
+        → IfSome (bytes_for (is_read (bytes_of words.now)) (S.left source.old)) (λ bytes. IsExpected (expected (bytes_of words.now) bytes) result) }
 
     ensures kept_read_faults { S.faults source.old ≤ S.faults source.new }
     ensures kept_write_faults { K.faults sink.old ≤ K.faults sink.new }
@@ -205,6 +224,6 @@ pub fn command<S: Source, K: Sink>(
     match command_of(alloc, words) {
         Err(NoMemory) => Status::NoMemory,
         Ok(None) => Status::Usage,
-        Ok(Some(command)) => run(alloc, &command, source, sink),
+        Ok(Some(command)) => obey(rt, alloc, &command, source, sink, gate),
     }
 }

@@ -1,7 +1,7 @@
 //! The text of lawful logs: how many stores, addresses and applied entries there are.
 
-ghost use Rattle.std.specs.Prelude.{◌≡◌, ◌++◌, ◌-◌, ◌<◌, ◌^◌, IfOk, OnOk};
-ghost use Rattle.std.specs.Fmt.{decimal};
+ghost use Rattle.std.specs.Prelude.{◌≡◌, ◌∷◌, [], ◌-◌, ◌<◌, ◌^◌, IfOk};
+ghost use Rattle.rs_field.specs.Forms.{Appends, more_text, number};
 ghost use Rattle.raftreplay.specs.Expected.{applied_entries, lawful_text};
 
 use itoa::Buffer;
@@ -19,8 +19,7 @@ pub fn write_lawful(alloc: Global, plan: &Plan) -> Result<Vec<u8>, NoMemory>
     put_word(&mut text, "lawful")?;
     stores.put(&mut text)?;
     u64::from(plan.count()).put(&mut text)?;
-    put_word(&mut text, " ")?;
-    put_wide(&mut text, applied_entries(plan))?;
+    put_count(&mut text, applied_entries(plan))?;
     put_word(&mut text, "\n")?;
     Ok(text)
 }
@@ -36,10 +35,11 @@ fn applied_entries(plan: &Plan) -> u128
     total
 }
 
-/// Appends the decimal digits of a number.
-fn put_wide(text: &mut Vec<u8>, n: u128) -> Result<(), NoMemory>
-    ensures { OnOk result (text.new.items ≡ text.old.items ++ decimal n) }
+/// Appends a space and the decimal digits of a number.
+pub fn put_count(text: &mut Vec<u8>, n: u128) -> Result<(), NoMemory>
+    ensures { Appends result text.old text.new (more_text (number n ∷ [])) }
 {
     let mut buffer = Buffer::new();
+    put_word(text, " ")?;
     put_word(text, buffer.format(n))
 }

@@ -3,16 +3,24 @@
 //! The program is the call of [`command`] on standard input and output. README.md has a tour.
 #![tactic(auto)]
 
+mod answer;
 mod commands;
+mod counting;
 mod key_word;
 mod lawful;
+mod reading;
+mod settings;
 mod status;
 mod streams;
 #[cfg(test)]
 mod tests;
 mod words;
 
-pub use commands::{check_command, command, fold_command, history_command};
+pub use commands::{
+    check_command, command, fold_command, gen_command, history_command, run_command,
+    selftest_command,
+};
+use rs_base::OpenGate;
 pub use status::Status;
 use std::io;
 use std::io::ErrorKind;
@@ -25,7 +33,7 @@ fn main(rt: HostRuntime) -> ExitCode {
         Ok(words) => {
             let mut source = StdSource::new(rt.stdin());
             let mut sink = StdSink::new(rt.stdout());
-            command(rt.alloc(), &words, &mut source, &mut sink)
+            command(&rt, rt.alloc(), &words, &mut source, &mut sink, &OpenGate)
         }
         Err(error) if error.kind() == ErrorKind::OutOfMemory => Status::NoMemory,
         Err(_) => Status::Usage,

@@ -1,7 +1,9 @@
 ghost use Rattle.std.specs.Prelude.{◌≡◌, true, is_some, IfOk, OnErr};
-ghost use Rattle.raftreplay.specs.Words.{command_of, simple_command, keyed_command, bytes_of};
+ghost use Rattle.raftreplay.specs.Words.{bytes_of, command_of, command_named, alone, with_key, with_options, with_number, with_number_and_options};
 
 use crate::key_word::key_word;
+use crate::settings::{number_word, options_of};
+use rs_engine::Options;
 use rs_key::{Key, NoMemory};
 use std::alloc::Global;
 
@@ -14,6 +16,12 @@ pub enum Command {
     Fold,
     /// `history KEY`: the writes of one key.
     History(Key),
+    /// `run` and options: what comes of the logs, made by pollers.
+    Run(Options),
+    /// `gen N`: the logs that a number makes.
+    Gen(u64),
+    /// `selftest N` and options: a run on the logs that a number makes.
+    SelfTest(u64, Options),
 }
 
 /// The command that the words are. Words that are none of the forms are none, and then no memory is taken.
@@ -22,35 +30,83 @@ pub fn command_of(alloc: Global, words: &[String]) -> Result<Option<Command>, No
     ensures err { OnErr result (is_some (command_of (bytes_of words.now)) ≡ true) }
 {
     match words {
-        [word] => Ok(simple_command(word.as_str())),
-        [word, key] => Ok(keyed_command(alloc, word.as_str(), key.as_str())?),
-        _ => Ok(None),
+        [] => Ok(None),
+        [name, rest @ ..] => command_named(alloc, name.as_str(), rest),
     }
 }
 
-/// The command of one word.
-fn simple_command(word: &str) -> Option<Command>
-    ensures { result ≡ simple_command word.now }
+/// The command of this name with the words behind it.
+fn command_named(alloc: Global, name: &str, words: &[String]) -> Result<Option<Command>, NoMemory>
+    ensures ok { IfOk result (λ command. command ≡ command_named name.now (bytes_of words.now)) }
+    ensures err { OnErr result (is_some (command_named name.now (bytes_of words.now)) ≡ true) }
 {
-    if word == "check" {
-        Some(Command::Check)
-    } else if word == "fold" {
-        Some(Command::Fold)
+    if name == "check" {
+        Ok(alone(Command::Check, words))
+    } else if name == "fold" {
+        Ok(alone(Command::Fold, words))
+    } else if name == "history" {
+        with_key(alloc, words)
+    } else if name == "run" {
+        Ok(with_options(words))
+    } else if name == "gen" {
+        Ok(with_number(words))
+    } else if name == "selftest" {
+        Ok(with_number_and_options(words))
     } else {
-        None
+        Ok(None)
     }
 }
 
-/// The command of two words.
-fn keyed_command(alloc: Global, word: &str, key: &str) -> Result<Option<Command>, NoMemory>
-    ensures ok { IfOk result (λ command. command ≡ keyed_command word.now key.now) }
-    ensures err { OnErr result (is_some (keyed_command word.now key.now) ≡ true) }
+/// The command, where no word is left.
+fn alone(command: Command, words: &[String]) -> Option<Command>
+    ensures { result ≡ alone command (bytes_of words.now) }
 {
-    if word != "history" {
-        return Ok(None);
+    match words {
+        [] => Some(command),
+        _ => None,
     }
-    match key_word(alloc, key)? {
+}
+
+/// `KEY`.
+fn with_key(alloc: Global, words: &[String]) -> Result<Option<Command>, NoMemory>
+    ensures ok { IfOk result (λ command. command ≡ with_key (bytes_of words.now)) }
+    ensures err { OnErr result (is_some (with_key (bytes_of words.now)) ≡ true) }
+{
+    let [key] = words else {
+        return Ok(None);
+    };
+    match key_word(alloc, key.as_str())? {
         None => Ok(None),
         Some(key) => Ok(Some(Command::History(key))),
+    }
+}
+
+/// Options.
+fn with_options(words: &[String]) -> Option<Command>
+    ensures { result ≡ with_options (bytes_of words.now) }
+{
+    Some(Command::Run(options_of(words)?))
+}
+
+/// `N`.
+fn with_number(words: &[String]) -> Option<Command>
+    ensures { result ≡ with_number (bytes_of words.now) }
+{
+    match words {
+        [number] => Some(Command::Gen(number_word(number.as_str())?)),
+        _ => None,
+    }
+}
+
+/// `N` and options.
+fn with_number_and_options(words: &[String]) -> Option<Command>
+    ensures { result ≡ with_number_and_options (bytes_of words.now) }
+{
+    match words {
+        [number, rest @ ..] => {
+            let n = number_word(number.as_str())?;
+            Some(Command::SelfTest(n, options_of(rest)?))
+        }
+        _ => None,
     }
 }
