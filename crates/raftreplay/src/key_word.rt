@@ -2,7 +2,7 @@ ghost use Rattle.std.specs.Prelude.{◌≡◌, ◌/◌, true, is_some, length, O
 ghost use Rattle.hex.specs.Hex.{decode_sized};
 ghost use Rattle.raftreplay.specs.Words.{key_word};
 
-use rs_key::{Key, NoMemory};
+use rs_key::{Bytes, Key, NoMemory};
 use std::alloc::Global;
 
 // Decodes the word's digits into room for half as many bytes; false where they are odd, or no digits.
@@ -33,6 +33,6 @@ pub fn key_word(alloc: Global, word: &str) -> Result<Option<Key>, NoMemory>
     if !decode_into(word, bytes) {
         return Ok(None);
     }
-    let bytes = Vec::from_slice(alloc, bytes)?;
+    let bytes = Bytes::new(alloc, bytes)?;
     Ok(Some(Key::from_bytes(bytes)))
 }

@@ -1,7 +1,6 @@
 -- What a function of the code answered, against what reading gives: the same, unless memory ran out.
 use Rattle.std.specs.Prelude.{◌≡◌, ℕ, List, Result, Ok, Err, IsErr}
 use Rattle.std.specs.Borrow.{Bor}
-use Rattle.std.specs.declared.vec.Vec.{Vec}
 use Rattle.hex.specs.declared.error.FromHexError.{FromHexError}
 use Rattle.rs_field.specs.declared.fault.TextKind.{TextKind}
 use Rattle.rs_field.specs.declared.fault.TextKind.TheVariants.{BadKey}
@@ -35,7 +34,7 @@ TakesField (Ok f) after read = read ≡ Ok (f.now, after)
 TakesField (Err kind) after read = read ≡ Err kind
 
 -- the bytes that digits spell, or that they spell none: BadKey
-abbrev pub Decodes : {A : Type 0} → Result (Vec ℕ A) LineError → Result (List ℕ) FromHexError → Type 0
-Decodes (Ok bytes) read = read ≡ Ok bytes.items
+abbrev pub Decodes : Result (List ℕ) LineError → Result (List ℕ) FromHexError → Type 0
+Decodes (Ok bytes) read = read ≡ Ok bytes
 Decodes (Err errors.NoMemory) read = Unit {0}
 Decodes (Err (errors.Bad kind)) read = (kind ≡ BadKey) × IsErr read

@@ -1,5 +1,5 @@
 use rs_key::NoMemory;
-use std::alloc::{AllocError, AllocFailed};
+use std::alloc::AllocError;
 
 /// What is wrong with a text at its first bad line.
 #[derive(Clone, Copy, Debug, PartialEq, Eq)]
@@ -47,17 +47,6 @@ impl From<AllocError> for LineError {
     ghost from_gives = { λ _ e. e ≡ why.NoMemory };
 
     fn from(_e: AllocError) -> LineError {
-        LineError::NoMemory
-    }
-}
-
-impl<T: Drop> From<AllocFailed<T>> for LineError {
-    ghost use Rattle.std.specs.Prelude.{◌≡◌};
-    ghost use Rattle.rs_field.specs.declared.fault.LineError.TheVariants as why;
-
-    ghost from_gives = { λ _ e. e ≡ why.NoMemory };
-
-    fn from(_e: AllocFailed<T>) -> LineError {
         LineError::NoMemory
     }
 }

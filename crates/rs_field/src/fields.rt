@@ -7,7 +7,7 @@ use crate::cuts::next_field;
 use crate::fault::{LineError, TextKind};
 use crate::hexadecimal::hex_of;
 use crate::numbers::{id_of, is_word, number_of};
-use rs_key::{Key, Value};
+use rs_key::{Bytes, Key, Value};
 use std::alloc::Global;
 use std::marker::Model;
 
@@ -96,7 +96,7 @@ impl<'a> Fields<'a> {
     {
         let field = self.field()?;
         if is_word(field, "-") {
-            return Ok(Value::from_bytes(Vec::new(alloc)));
+            return Ok(Value::from_bytes(Bytes::empty()));
         }
         let bytes = hex_of(alloc, Value::MOST, field)?;
         Ok(Value::from_bytes(bytes))

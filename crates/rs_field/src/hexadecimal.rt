@@ -3,12 +3,13 @@
 //! They mean what the crate `hex` says they do, and are read by a table: a branch on each digit, as that
 //! crate has it, is guessed wrongly on every second digit of random bytes.
 
-ghost use Rattle.std.specs.Prelude.{◌≡◌, ◌≤◌, IfOk, slice_index, unwrap_or, vec_len};
+ghost use Rattle.std.specs.Prelude.{◌≡◌, ◌≤◌, ◌<◌, ◌*◌, ◌%◌, IfOk, IsErrOf, IsErr, Ok, MatchBool, MatchOption, length, slice_index, unwrap_or};
 ghost use Rattle.hex.specs.Hex.{decode_of, hex_digit_value};
 ghost use Rattle.rs_field.specs.Fields.{hex_of};
 ghost use Rattle.rs_field.specs.Gives.{Decodes, Gives};
 
 use crate::fault::{LineError, TextKind};
+use rs_key::Bytes;
 use std::alloc::Global;
 
 /// The value of each byte as a digit of either case, and 255 where it is none.
@@ -44,44 +45,88 @@ fn digit(byte: u8) -> u8
     at(VALUES, byte)
 }
 
-/// The bytes that an even number of hexadecimal digits spells.
-fn decode(alloc: Global, field: &[u8]) -> Result<Vec<u8>, LineError>
+/// Puts what an even number of hexadecimal digits spells into the room, which has half as many places; false
+/// where a byte is no digit.
+fn decode_into(field: &[u8], room: &mut [u8]) -> bool
+    requires { length field.now ≡ 2 * length room.old }
+    ensures { MatchBool result (decode_of field.now ≡ Ok room.new) (IsErr (decode_of field.now)) }
+{
+    for i in 0..room.len() {
+        let high = digit(field[2 * i]);
+        let low = digit(field[2 * i + 1]);
+        if high > 15 {
+            return false;
+        }
+        if low > 15 {
+            return false;
+        }
+        room[i] = high * 16 + low;
+    }
+    true
+}
+
+/// The bytes that up to 44 digits spell, an even number of them; none where a byte is no digit. They take no
+/// memory.
+fn decode_short(field: &[u8]) -> Option<Bytes>
+    requires even { length field.now % 2 ≡ 0 }
+    requires short { length field.now ≤ 44 }
+    ensures { MatchOption result (IsErr (decode_of field.now)) (λ bytes. decode_of field.now ≡ Ok bytes) }
+{
+    let count = field.len() / 2;
+    let mut array = [0; Bytes::SHORT];
+    if decode_into(field, &mut array[..count]) {
+        Some(Bytes::from_array(array, count))
+    } else {
+        None
+    }
+}
+
+/// The bytes that an even number of digits spells, on the heap.
+fn decode_long(alloc: Global, field: &[u8]) -> Result<Bytes, LineError>
+    requires { length field.now % 2 ≡ 0 }
     ensures { Decodes result (decode_of field.now) }
+{
+    let mut bytes = vec![in alloc; 0u8; field.len() / 2]?;
+    if decode_into(field, bytes.as_mut_slice()) {
+        Ok(Bytes::from_vec(alloc, bytes)?)
+    } else {
+        Err(LineError::Bad(TextKind::BadKey))
+    }
+}
+
+/// The bytes that an even number of hexadecimal digits spells. Only more than 44 digits want memory.
+fn decode(alloc: Global, field: &[u8]) -> Result<Bytes, LineError>
+    ensures value { Decodes result (decode_of field.now) }
+    ensures memory { IsErrOf result LineError.NoMemory → 44 < length field.now }
 {
     if field.len() % 2 != 0 {
         return Err(LineError::Bad(TextKind::BadKey));
     }
-    let half = field.len() / 2;
-    let mut bytes = Vec::with_capacity(alloc, half)?;
-    for i in 0..half {
-        let high = digit(field[2 * i]);
-        let low = digit(field[2 * i + 1]);
-        if high > 15 {
-            return Err(LineError::Bad(TextKind::BadKey));
-        }
-        if low > 15 {
-            return Err(LineError::Bad(TextKind::BadKey));
-        }
-        bytes.push(high * 16 + low)?;
+    if field.len() <= 2 * Bytes::SHORT {
+        decode_short(field).ok_or(LineError::Bad(TextKind::BadKey))
+    } else {
+        decode_long(alloc, field)
     }
-    Ok(bytes)
 }
 
-/// The bytes that hexadecimal digits of either case spell, at least one of them and at most so many.
+/// The bytes that hexadecimal digits of either case spell, at least one of them and at most so many. Only more
+/// than 44 digits want memory.
 #[tactic(auto, unfolding(crate::specs::Fields::hex_of))]
-pub fn hex_of(alloc: Global, most: usize, field: &[u8]) -> Result<Vec<u8>, LineError>
-    ensures value { Gives (λ v. v.items) result (hex_of most field.now) }
-    ensures some { IfOk result (λ v. 1 ≤ vec_len v) }
-    ensures most { IfOk result (λ v. vec_len v ≤ most) }
+pub fn hex_of(alloc: Global, most: usize, field: &[u8]) -> Result<Bytes, LineError>
+    ensures value { Gives (λ v. v) result (hex_of most field.now) }
+    ensures some { IfOk result (λ v. 1 ≤ length v) }
+    ensures most { IfOk result (λ v. length v ≤ most) }
+    ensures memory { IsErrOf result LineError.NoMemory → 44 < length field.now }
 {
     let bytes = match decode(alloc, field) {
         Ok(bytes) => bytes,
         Err(error) => return Err(error),
     };
-    if bytes.is_empty() {
+    let count = bytes.as_slice().len();
+    if count == 0 {
         return Err(LineError::Bad(TextKind::BadKey));
     }
-    if bytes.len() > most {
+    if count > most {
         return Err(LineError::Bad(TextKind::Limit));
     }
     Ok(bytes)

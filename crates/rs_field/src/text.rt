@@ -38,8 +38,18 @@ pub fn put_number(out: &mut Vec<u8>, n: u64) -> Result<(), NoMemory>
 pub fn put_hex(out: &mut Vec<u8>, bytes: &[u8]) -> Result<(), NoMemory>
     ensures { Appends result out.old out.new (encode_lower bytes.now) }
 {
-    let digits = hex::encode(*out.allocator(), bytes)?;
-    put_word(out, digits.as_str())
+    let start = out.len();
+    let Some(count) = bytes.len().checked_mul(2) else {
+        return Err(NoMemory);
+    };
+    let Some(end) = start.checked_add(count) else {
+        return Err(NoMemory);
+    };
+    out.resize(end, 0)?;
+    let Ok(()) = hex::encode_to_slice(bytes, &mut out[start..]) else {
+        unreachable!()
+    };
+    Ok(())
 }
 
 /// Appends a value in hexadecimal digits, or `-` for the empty one.

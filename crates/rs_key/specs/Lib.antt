@@ -1,5 +1,6 @@
 pub mod Cutting
 pub mod Epochs
+pub mod Held
 pub mod Keys
 pub mod Lists
 pub mod Ranges

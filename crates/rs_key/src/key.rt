@@ -1,12 +1,13 @@
-ghost use Rattle.std.specs.Prelude.{◌≡◌, ◌<◌, ◌≤◌, ◌↔◌, ◌⊎◌, length, vec_len, IfOk, IsErrOf, nat_eq, refl, Some};
+ghost use Rattle.std.specs.Prelude.{◌≡◌, ◌<◌, ◌≤◌, ◌↔◌, ◌⊎◌, length, IfOk, IsErrOf, nat_eq, refl, Some};
 ghost use Rattle.std.specs.Ordering.{nat_cmp};
 ghost use Rattle.std.specs.Cmp.Lexicographic.{slice_cmp, nat_list_eq_equiv, nat_list_cmp_total, texts_ties, texts_po};
 ghost use Rattle.std.specs.Cmp.{partial_equiv_from_equiv};
 ghost use Rattle.rs_key.specs.Keys.{same_bytes};
 
+use crate::bytes::Bytes;
 use crate::copies::TryClone;
 use crate::no_memory as memory;
-use std::alloc::{AllocError, Global};
+use std::alloc::Global;
 use std::cmp::Ordering;
 use std::marker::Model;
 use thiserror::Error;
@@ -22,21 +23,23 @@ pub enum KeyError {
     NoMemory,
 }
 
-impl From<AllocError> for KeyError {
+impl From<memory::NoMemory> for KeyError {
     ghost use Rattle.std.specs.Prelude.{◌≡◌};
     ghost use Rattle.rs_key.specs.declared.key.KeyError.TheVariants as why;
 
     ghost from_gives = { λ _ e. e ≡ why.NoMemory };
 
-    fn from(_e: AllocError) -> KeyError {
+    fn from(_e: memory::NoMemory) -> KeyError {
         KeyError::NoMemory
     }
 }
 
 /// A key: 1 to 256 bytes, ordered byte by byte, a proper prefix first. Contracts see the list of its bytes.
+///
+/// Its bytes are held as `Bytes` holds them.
 #[derive(Debug, Drop)]
 pub struct Key {
-    bytes: Vec<u8>,
+    bytes: Bytes,
 }
 
 impl Model for Key {
@@ -45,9 +48,9 @@ impl Model for Key {
 
     ghost Value = { List ℕ };
 
-    ghost view = { λ k. k.bytes.items };
+    ghost view = { λ k. k.bytes };
 
-    ghost invariant = { λ k. IsKeyLength k.bytes.items };
+    ghost invariant = { λ k. IsKeyLength k.bytes };
 }
 
 impl Key {
@@ -62,15 +65,15 @@ impl Key {
         if bytes.is_empty() || bytes.len() > Key::MOST {
             return Err(KeyError::BadLength);
         }
-        let bytes = Vec::from_slice(alloc, bytes)?;
+        let bytes = Bytes::new(alloc, bytes)?;
         Ok(Key { bytes })
     }
 
     /// The key of these bytes, without a copy.
-    pub fn from_bytes(bytes: Vec<u8>) -> Key
-        requires some { 1 ≤ vec_len bytes }
-        requires most { vec_len bytes ≤ 256 }
-        ensures { result ≡ bytes.items }
+    pub fn from_bytes(bytes: Bytes) -> Key
+        requires some { 1 ≤ length bytes }
+        requires most { length bytes ≤ 256 }
+        ensures { result ≡ bytes }
     {
         Key { bytes }
     }
@@ -80,14 +83,14 @@ impl Key {
         ensures some { 0 < length self.now }
         ensures most { length self.now ≤ 256 }
     {
-        &self.bytes
+        self.bytes.as_slice()
     }
 }
 
 impl TryClone for Key {
     fn try_clone(&self) -> Result<Key, memory::NoMemory> {
         Ok(Key {
-            bytes: self.bytes.clone()?,
+            bytes: self.bytes.try_clone()?,
         })
     }
 }

@@ -6,6 +6,7 @@
 #![tactic(auto)]
 
 mod bounds;
+mod bytes;
 mod copies;
 mod epoch;
 mod equality;
@@ -13,10 +14,12 @@ mod key;
 mod no_memory;
 mod range;
 mod rows;
+mod short;
 #[cfg(test)]
 mod tests;
 mod value;
 
+pub use bytes::Bytes;
 pub use copies::TryClone;
 pub use epoch::{Epoch, Kind};
 pub use equality::Same;

@@ -50,6 +50,34 @@ fn lengths_of_keys_and_values(rt: HostRuntime) -> Result<(), Fail> {
 }
 
 #[test]
+fn bytes_are_held_in_both_forms(rt: HostRuntime) -> Result<(), Fail> {
+    for length in [0usize, 1, 21, 22, 23, 256] {
+        let mut bytes = Vec::new(rt.alloc());
+        for place in 0..length {
+            bytes.push((place % 256) as u8)?;
+        }
+        let held = Bytes::new(rt.alloc(), bytes.as_slice())?;
+        assert_eq!(rt; held.as_slice(), bytes.as_slice(), "{length} bytes");
+        let copy = held.try_clone()?;
+        assert_eq!(rt;
+            copy.as_slice(),
+            bytes.as_slice(),
+            "a copy of {length} bytes"
+        );
+        let taken = Bytes::from_vec(rt.alloc(), bytes)?;
+        assert_eq!(rt;
+            taken.as_slice(),
+            held.as_slice(),
+            "a Vec of {length} bytes"
+        );
+    }
+    assert!(rt; Bytes::empty().as_slice().is_empty());
+    let front = Bytes::from_array([7; Bytes::SHORT], 3);
+    assert_eq!(rt; front.as_slice(), [7, 7, 7].as_slice());
+    Ok(())
+}
+
+#[test]
 fn a_range_is_cut_and_joined(rt: HostRuntime) -> Result<(), Fail> {
     let whole = range(rt.alloc(), "", "")?;
     let mut keys = Vec::new(rt.alloc());

@@ -1,8 +1,9 @@
-ghost use Rattle.std.specs.Prelude.{◌≡◌, ◌<◌, ◌≤◌, ◌↔◌, length, vec_len, IfOk, IsErrOf};
+ghost use Rattle.std.specs.Prelude.{◌≡◌, ◌<◌, ◌≤◌, ◌↔◌, length, IfOk, IsErrOf};
 ghost use Rattle.std.specs.Cmp.Lexicographic.{nat_list_eq_equiv};
 ghost use Rattle.std.specs.Cmp.{partial_equiv_from_equiv};
 ghost use Rattle.rs_key.specs.Keys.{same_bytes};
 
+use crate::bytes::Bytes;
 use crate::copies::TryClone;
 use crate::key::KeyError;
 use crate::no_memory::NoMemory;
@@ -10,9 +11,11 @@ use std::alloc::Global;
 use std::marker::Model;
 
 /// What a key is given: 0 to 4,096 bytes. Contracts see the list of its bytes.
+///
+/// Its bytes are held as `Bytes` holds them.
 #[derive(Debug, Drop)]
 pub struct Value {
-    bytes: Vec<u8>,
+    bytes: Bytes,
 }
 
 impl Model for Value {
@@ -20,9 +23,9 @@ impl Model for Value {
 
     ghost Value = { List ℕ };
 
-    ghost view = { λ v. v.bytes.items };
+    ghost view = { λ v. v.bytes };
 
-    ghost invariant = { λ v. length v.bytes.items ≤ 4096 };
+    ghost invariant = { λ v. length v.bytes ≤ 4096 };
 }
 
 impl Value {
@@ -37,14 +40,14 @@ impl Value {
         if bytes.len() > Value::MOST {
             return Err(KeyError::BadLength);
         }
-        let bytes = Vec::from_slice(alloc, bytes)?;
+        let bytes = Bytes::new(alloc, bytes)?;
         Ok(Value { bytes })
     }
 
     /// The value of these bytes, without a copy.
-    pub fn from_bytes(bytes: Vec<u8>) -> Value
-        requires { vec_len bytes ≤ 4096 }
-        ensures { result ≡ bytes.items }
+    pub fn from_bytes(bytes: Bytes) -> Value
+        requires { length bytes ≤ 4096 }
+        ensures { result ≡ bytes }
     {
         Value { bytes }
     }
@@ -53,14 +56,14 @@ impl Value {
         ensures value { result.now ≡ self.now }
         ensures most { length self.now ≤ 4096 }
     {
-        &self.bytes
+        self.bytes.as_slice()
     }
 }
 
 impl TryClone for Value {
     fn try_clone(&self) -> Result<Value, NoMemory> {
         Ok(Value {
-            bytes: self.bytes.clone()?,
+            bytes: self.bytes.try_clone()?,
         })
     }
 }

@@ -1,0 +1,9 @@
+-- The bytes that are held, in place or on the heap.
+use Rattle.std.specs.Prelude.{ℕ, List}
+use Rattle.rs_key.specs.declared.bytes.Form.{Form}
+use Rattle.rs_key.specs.declared.bytes.Form.TheVariants as form
+
+-- in either form the list of them
+abbrev pub bytes_of : Form → List ℕ
+bytes_of (form.Short short) = short
+bytes_of (form.Long heap) = heap.value.items
