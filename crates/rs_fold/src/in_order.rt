@@ -11,10 +11,10 @@ ghost use Rattle.rs_fold.specs.Ordered.{IsScripted, IsFoldOf, EndsAs};
 use crate::fold_error::FoldError;
 use crate::folding::outcome_of_end;
 use crate::run::{End, record_reply};
-use crate::writes::Writes;
 use rs_check::Plan;
 use rs_entry::{Store, StoreOutcome};
 use rs_order::{Advance, Walk};
+use rs_writes::Writes;
 use std::alloc::Global;
 
 /// What comes of one store, the one with this id, when its regions take their entries in the order of these ids.

@@ -1,22 +1,17 @@
 //! What committed logs come to: replies, regions, pairs and each key's history.
 #![tactic(auto)]
 
-mod accepted_write;
 mod fold_error;
 mod folding;
-mod grouping;
 mod in_order;
-mod key_code;
 mod lookup;
 mod region_lines;
 mod replies;
 mod run;
 #[cfg(test)]
 mod tests;
-mod writes;
 
 pub use fold_error::FoldError;
 pub use folding::fold;
 pub use in_order::fold_in;
 pub use lookup::history;
-pub use writes::Writes;

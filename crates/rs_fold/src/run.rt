@@ -5,10 +5,10 @@ ghost use Rattle.rs_order.specs.Formed.{IsFormedOne};
 ghost use Rattle.rs_outcome.specs.Outcomes.{reply_line};
 ghost use Rattle.rs_fold.specs.Ends.{IsLawful, WentSo};
 
-use crate::writes::Writes;
 use rs_entry::{Reply, ReplyLine, Store};
 use rs_key::NoMemory;
 use rs_order::{Advance, Arrived, Effect, Walk};
+use rs_writes::Writes;
 use std::alloc::{AllocError, Global};
 
 /// A store at the end of its canonical order.

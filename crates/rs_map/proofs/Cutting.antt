@@ -7,8 +7,8 @@ use Rattle.rs_key.specs.Ranges.{Bounds, bad_cut_from, cut, cut_from, first_bad_c
 use Rattle.rs_key.proofs.RangeLaws.{below_trans}
 use Rattle.rs_value.specs.Items.{Items}
 use Rattle.rs_map.specs.Cuts.{AreKept, IsCutSoFar, IsKept}
-use Rattle.rs_map.specs.Maps.{Entries, HasItems, items_at, items_below, items_from}
-use Rattle.rs_map.proofs.Lookups.{from_start}
+use Rattle.rs_map.specs.Maps.{Writes, HasItems, items_at, items_below, items_from}
+use Rattle.rs_region.proofs.KeyOrder.{from_start}
 
 still_below : (q k : List ℕ) (end : Option (List ℕ)) → is_below q k ≡ true → is_to end k ≡ true → is_to end q ≡ true
 still_below q k None a b = refl
@@ -47,10 +47,10 @@ good_cut place start end k ks h = go (is_past start k && is_to end k) refl h
     go false e f = absurd (cc f)
 
 module _ (items : Items) (range : Bounds) (keys : List (List ℕ)) where
-  pub begun : (rest : Entries) → first_bad_cut range keys ≡ None → IsKept items range rest → IsCutSoFar items range keys 0 rest []
+  pub begun : (rest : Writes) → first_bad_cut range keys ≡ None → IsKept items range rest → IsCutSoFar items range keys 0 rest []
   begun rest good kept = record { start = range.start; place = 1; good = good; kept = kept; whole = λ maps h. h }
 
-  pub one_cut : (done : ℕ) (rest left right : Entries) (parts : List Entries) (k : List ℕ) → drop done keys ≡ k ∷ drop (done + 1) keys → IsCutSoFar items range keys done rest parts
+  pub one_cut : (done : ℕ) (rest left right : Writes) (parts : List Writes) (k : List ℕ) → drop done keys ≡ k ∷ drop (done + 1) keys → IsCutSoFar items range keys done rest parts
       → HasItems left (items_below k (items_at rest)) → HasItems right (items_from k (items_at rest)) → IsCutSoFar items range keys (done + 1) right (parts ++ left ∷ [])
   one_cut done rest left right parts k next so_far is_left is_right =
       record {
@@ -71,7 +71,7 @@ module _ (items : Items) (range : Bounds) (keys : List (List ℕ)) where
       left_kept = λ q. is_left q ∙ ap (λ l. cond (is_below q k) l []) (so_far.kept q)
           ∙ left_part (is_key q) (is_from so_far.start q) (is_to range.end q) (is_below q k) (items q) (λ b. still_below q k range.end b good.below)
 
-  pub all_cut : (done : ℕ) (rest : Entries) (parts : List Entries) → drop done keys ≡ [] → IsCutSoFar items range keys done rest parts → AreKept items (cut range keys) (parts ++ rest ∷ [])
+  pub all_cut : (done : ℕ) (rest : Writes) (parts : List Writes) → drop done keys ≡ [] → IsCutSoFar items range keys done rest parts → AreKept items (cut range keys) (parts ++ rest ∷ [])
   all_cut done rest parts over so_far =
       so_far.whole (rest ∷ []) (subst (λ ks. AreKept items (cut_from so_far.start range.end ks) (rest ∷ [])) (sym over) (so_far.kept, tt))
 

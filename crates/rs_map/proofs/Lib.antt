@@ -1,4 +1,7 @@
+pub mod Cuts
 pub mod Cutting
-pub mod Joining
-pub mod Listing
-pub mod Lookups
+pub mod Keys
+pub mod Noting
+pub mod Parted
+pub mod Results
+pub mod Splitting

@@ -1,36 +1,32 @@
--- A map from keys to their items, as the list of its entries.
-use Rattle.std.specs.Prelude.{◌≡◌, ◌⊎◌, ℕ, List, [], ◌∷◌, ◌++◌, Option, Some, unwrap_or, if◌then◌else◌}
-use Rattle.std.specs.BTreeMap.{is_at}
-use Rattle.std.specs.Cmp.Lexicographic.{slice_cmp}
-use Rattle.std.specs.Map.{lookup}
-use Rattle.std.specs.Ordering.{nat_cmp}
-use Rattle.rs_key.specs.Keys.{is_below, same_bytes}
-use Rattle.rs_entry.specs.declared.outcome.Item.{Item}
-use Rattle.rs_value.specs.Items.{Items}
+-- What was written in a range, as the list of its writes.
+use Rattle.std.specs.Prelude.{◌≡◌, ◌<◌, ℕ, Bool, true, false, not, List, [], ◌∷◌, ◌++◌, length, take, if◌then◌else◌}
+use Rattle.std.specs.List.{AllByRecursion, flat_map}
+use Rattle.rs_key.specs.Keys.{is_below}
+use Rattle.rs_key.specs.Ranges.{Bounds, holds}
+use Rattle.rs_order.specs.Stores.{Wrote}
+use Rattle.rs_value.specs.Items.{Items, history_of}
+use Rattle.rs_map.specs.declared.part.Part.{Part}
 
--- each key with its items, oldest first
-abbrev pub Entries : Type 0
-Entries = List (List ℕ × List Item)
+-- the writes, by key ranges from left to right, and those of a key in their order
+abbrev pub Writes : Type 0
+Writes = List Wrote
 
--- the list that is kept at a key, if any
-abbrev pub found_at : Entries → List ℕ → Option (List Item)
-found_at map key = lookup (is_at (slice_cmp nat_cmp key)) map
-
--- the items of a key: none where the map doesn't have it
-abbrev pub items_at : Entries → Items
-items_at map key = unwrap_or (found_at map key) []
+-- the items of a key: none where it isn't written
+abbrev pub items_at : Writes → Items
+items_at map key = history_of map key
 
 -- the map has these items, key by key
-abbrev pub HasItems : Entries → Items → Type 0
+abbrev pub HasItems : Writes → Items → Type 0
 HasItems map items = (key : List ℕ) → items_at map key ≡ items key
 
--- each key that the map has has an item
-abbrev pub NoneEmpty : Entries → Type 0
-NoneEmpty map = (key : List ℕ) → ¬ (found_at map key ≡ Some [])
+-- the items with the writes after them
+abbrev pub with_writes : Items → List Wrote → Items
+with_writes items writes key = items key ++ history_of writes key
 
--- the items with one more at the end of this key's
-abbrev pub with_item : Items → List ℕ → Item → Items
-with_item items noted item key = if same_bytes noted key then items key ++ item ∷ [] else items key
+-- the map has the items, and the first of the writes after them
+pub record HasFront (items : Items) (writes : List Wrote) (map : Writes) : Type 0 where
+  pub count : ℕ
+  pub front : HasItems map (with_writes items (take count writes))
 
 -- the items of the keys below this one
 abbrev pub items_below : List ℕ → Items → Items
@@ -44,10 +40,51 @@ items_from at items key = if is_below key at then [] else items key
 abbrev pub items_of_both : Items → Items → Items
 items_of_both a b key = a key ++ b key
 
--- no key has items in both
-abbrev pub KeysApart : Entries → Entries → Type 0
-KeysApart a b = (key : List ℕ) → (items_at a key ≡ []) ⊎ (items_at b key ≡ [])
+-- it has items of keys below this one alone
+abbrev pub LiesBelow : List ℕ → Writes → Type 0
+LiesBelow at map = (key : List ℕ) → is_below key at ≡ false → items_at map key ≡ []
 
--- some keys have taken over all items that the other has of them, and the rest have what they had
-abbrev pub HasTakenSome : Entries → Entries → Entries → Type 0
-HasTakenSome before other after = (key : List ℕ) → (items_at after key ≡ items_at before key) ⊎ (items_at after key ≡ items_at before key ++ items_at other key)
+-- it has none of those
+abbrev pub LiesFrom : List ℕ → Writes → Type 0
+LiesFrom at map = (key : List ℕ) → is_below key at ≡ true → items_at map key ≡ []
+
+-- it has items of keys in the range alone
+abbrev pub LiesIn : Bounds → Writes → Type 0
+LiesIn range map = (key : List ℕ) → holds range key ≡ false → items_at map key ≡ []
+
+-- ---- parts
+
+-- each of the writes is of a key below this one
+abbrev pub AllBelow : List ℕ → Writes → Type 0
+AllBelow at writes = AllByRecursion (λ w. is_below w.key at ≡ true) writes
+
+-- none of them is
+abbrev pub NoneBelow : List ℕ → Writes → Type 0
+NoneBelow at writes = AllByRecursion (λ w. is_below w.key at ≡ false) writes
+
+-- all writes, from left to right
+abbrev pub written : Writes → List Part → Writes
+written first parts = first ++ flat_map (λ p. p.writes) parts
+
+-- each part has writes, of keys from its start on; those before it are of keys below
+abbrev pub AreApart : Writes → List Part → Type 0
+AreApart first [] = Unit {0}
+AreApart first (p ∷ parts) = AllBelow p.start first × NoneBelow p.start p.writes × (0 < length p.writes) × AreApart p.writes parts
+
+-- and there is a first part, unless there is none at all
+abbrev pub AreParts : Writes → List Part → Type 0
+AreParts first parts = AreApart first parts × ((0 < length parts) → (0 < length first))
+
+-- each start is below those behind it
+abbrev pub StartsRise : List Part → Type 0
+StartsRise [] = Unit {0}
+StartsRise (p ∷ parts) = AllByRecursion (λ r. is_below p.start r.start ≡ true) parts × StartsRise parts
+
+-- the part begins at the key or below it
+abbrev pub begins_by : List ℕ → Part → Bool
+begins_by key p = not (is_below key p.start)
+
+-- a part with these writes, if there are any
+abbrev pub some_part : List ℕ → Writes → List Part
+some_part start [] = []
+some_part start (w ∷ writes) = record { start = start; writes = w ∷ writes } ∷ []

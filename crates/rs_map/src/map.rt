@@ -1,136 +1,193 @@
-ghost use Rattle.std.specs.Prelude.{◌≡◌, ◌<◌, ◌↔◌, [], ℕ, List, length, OnOk, OnErr, IfOk, IfSome, IsTrue, MatchOption, None};
-ghost use Rattle.std.specs.List.{AllByRecursion};
+ghost use Rattle.std.specs.Prelude.{◌≡◌, ◌≤◌, ◌↔◌, ◌∷◌, ◌++◌, [], true, false, length, map, IsTrue, OnOk, OnErr, IfOk, None};
+ghost use Rattle.std.specs.List.Sorted.{IsPartitionPoint};
 ghost use Rattle.rs_key.specs.Ranges.{Bounds, cut, first_bad_cut};
-ghost use Rattle.rs_value.specs.Items.{Items, no_items};
+ghost use Rattle.rs_order.specs.Stores.{wrote};
+ghost use Rattle.rs_value.specs.Items.{Items};
 ghost use Rattle.rs_map.specs.Cuts.{AreKept, IsKept};
-ghost use Rattle.rs_map.specs.Histories.{KeysRise, items_in_histories};
-ghost use Rattle.rs_map.specs.Maps.{HasItems, HasTakenSome, KeysApart, items_at, items_below, items_from, items_of_both, with_item};
+ghost use Rattle.rs_map.specs.Maps.{AreApart, HasFront, HasItems, LiesBelow, LiesFrom, StartsRise, begins_by, items_at, items_below, items_from, items_of_both, some_part, with_writes, written};
 
-use rs_entry::{Item, KeyHistory};
+use crate::part::Part;
+use rs_entry::Op;
 use rs_key::{Key, NoMemory, Rows};
+use rs_writes::{AcceptedWrite, Writes};
 use std::alloc::Global;
-use std::collections::BTreeMap;
 use std::marker::Model;
-use std::mem;
 
-/// The items of each key, oldest first. Contracts see the list of its entries, and read it by `items_at`.
+/// What was written of each key, in the order of the writes. Contracts see the writes, and read them by `items_at`.
 #[derive(Drop)]
-pub struct Map {
-    entries: BTreeMap<Key, Rows<Item>>,
+pub struct Map<'p> {
+    /// What was written of the keys below the first part's start.
+    first: Writes<'p>,
+    /// The other parts, from left to right.
+    parts: Vec<Part<'p>>,
 }
 
-impl Model for Map {
-    ghost use Rattle.rs_map.specs.Maps.{Entries, NoneEmpty};
+impl<'p> Model for Map<'p> {
+    ghost use Rattle.rs_map.specs.Maps.{AreParts, Writes, written};
 
-    ghost Value = { Entries };
+    ghost Value = { Writes };
 
-    ghost view = { λ m. m.entries.entries };
+    ghost view = { λ m. written m.first m.parts.items };
 
-    ghost invariant = { λ m. NoneEmpty m.entries.entries };
+    ghost invariant = { λ m. AreParts m.first m.parts.items };
 }
 
-impl Map {
-    /// The map without an item. It takes no memory.
-    pub fn new(alloc: Global) -> Map
-        ensures { HasItems result no_items }
+impl<'p> Map<'p> {
+    /// The map without a write. It takes no memory.
+    pub fn new(alloc: Global) -> Map<'p>
+        ensures { result ≡ [] }
     {
         Map {
-            entries: BTreeMap::new(alloc),
+            first: Writes::new(alloc),
+            parts: Vec::new(alloc),
         }
     }
 
-    /// How many keys have items.
-    pub fn len(&self) -> usize
-        ensures { result ≡ length self.now }
-    {
-        self.entries.len()
-    }
-
-    /// Whether no key has an item.
+    /// Whether nothing was written.
     pub fn is_empty(&self) -> bool
-        ensures { IsTrue result ↔ HasItems self.now no_items }
+        ensures { IsTrue result ↔ (self.now ≡ []) }
     {
-        self.entries.is_empty()
+        self.first.is_empty()
     }
 
-    /// The items of the key; none exactly where it has none.
-    pub fn get(&self, key: &Key) -> Option<&Rows<Item>>
-        ensures items { MatchOption result (items_at self.now key.now ≡ []) (λ items. items.now ≡ items_at self.now key.now) }
-        ensures some { IfSome result (λ items. 0 < length items.now) }
+    /// Notes the operations of an accepted write, in their order. Where memory runs out the first of them are noted.
+    pub fn note(&mut self, region: u64, index: u64, ops: &'p [Op]) -> Result<(), NoMemory>
+        ensures ok { OnOk result (HasItems self.new (with_writes (items_at self.old) (map (wrote region index) ops.now))) }
+        ensures err { OnErr result (HasFront (items_at self.old) (map (wrote region index) ops.now) self.new) }
     {
-        self.entries.get(key)
-    }
-
-    /// Adds an item at the end of its key's.
-    #[tactic(auto, using(crate::proofs::Lookups::noted_through, crate::proofs::Lookups::same_through))]
-    pub fn note(&mut self, alloc: Global, key: Key, item: Item) -> Result<(), NoMemory>
-        ensures ok { OnOk result (HasItems self.new (with_item (items_at self.old) key item)) }
-        ensures err { OnErr result (self.new ≡ self.old) }
-    {
-        match self.entries.get_mut(&key) {
-            Some(items) => items.push(item),
-            None => self.begin(alloc, key, item),
+        for op in ops {
+            self.note_one(region, index, op)?;
         }
-    }
-
-    /// The first item of a key.
-    fn begin(&mut self, alloc: Global, key: Key, item: Item) -> Result<(), NoMemory>
-        requires { items_at self.old key ≡ [] }
-        ensures ok { OnOk result (HasItems self.new (with_item (items_at self.old) key item)) }
-        ensures err { OnErr result (self.new ≡ self.old) }
-    {
-        let mut items = Rows::new(alloc);
-        items.push(item)?;
-        self.entries.insert(key, items)?;
         Ok(())
     }
 
-    /// Takes out the keys from this one on.
-    pub fn split_off(&mut self, key: &Key) -> Result<Map, NoMemory>
-        ensures below { OnOk result (HasItems self.new (items_below key.now (items_at self.old))) }
-        ensures from { IfOk result (λ right. HasItems right (items_from key.now (items_at self.old))) }
-        ensures err { OnErr result (self.new ≡ self.old) }
+    /// The map of what both have, of which the one has keys below this one alone, and the other has none.
+    pub fn join(below: Map<'p>, at: Key, others: Map<'p>) -> Result<Map<'p>, NoMemory>
+        requires below { LiesBelow at below }
+        requires others { LiesFrom at others }
+        ensures { IfOk result (λ both. HasItems both (items_of_both (items_at below.entry) (items_at others.entry))) }
     {
-        let entries = self.entries.split_off(key)?;
-        Ok(Map { entries })
-    }
-
-    /// Takes over the items of the other. Where memory runs out, what wasn't taken over yet is dropped.
-    pub fn join(&mut self, other: Map) -> Result<(), NoMemory>
-        requires apart { KeysApart self.old other }
-        ensures ok { OnOk result (HasItems self.new (items_of_both (items_at self.old) (items_at other))) }
-        ensures err { OnErr result (HasTakenSome self.old other self.new) }
-    {
-        let Map { mut entries } = other;
-        self.entries.append(&mut entries)?;
-        Ok(())
+        if below.is_empty() {
+            return Ok(others);
+        }
+        if others.is_empty() {
+            return Ok(below);
+        }
+        let Map { first, mut parts } = below;
+        let Map {
+            first: writes,
+            parts: mut more,
+        } = others;
+        parts.push(Part { start: at, writes })?;
+        parts.append(&mut more)?;
+        Ok(Map { first, parts })
     }
 
     /// The maps of the ranges into which the keys cut a range, from left to right.
-    pub fn cut(self, alloc: Global, keys: &Rows<Key>) -> Result<Rows<Map>, NoMemory>
-        ensures { IfOk result (λ maps. (items : Items) (range : Bounds) → first_bad_cut range keys.now ≡ None → IsKept items range self → AreKept items (cut range keys.now) maps) }
+    pub fn cut(self, alloc: Global, keys: &Rows<Key>) -> Result<Vec<Map<'p>>, NoMemory>
+        ensures { IfOk result (λ maps. (items : Items) (range : Bounds) → first_bad_cut range keys.now ≡ None → IsKept items range self.entry → AreKept items (cut range keys.now) maps.items) }
     {
         let mut rest = self;
-        let mut parts = Rows::new(alloc);
+        let mut maps = Vec::new(alloc);
         for key in keys.as_slice() {
-            let right = rest.split_off(key)?;
-            let left = mem::replace(&mut rest, right);
-            parts.push(left)?;
+            let (left, right) = rest.split_at(alloc, key)?;
+            maps.push(left)?;
+            rest = right;
         }
-        parts.push(rest)?;
-        Ok(parts)
+        maps.push(rest)?;
+        Ok(maps)
     }
 
-    /// The histories of the keys that have items, by key.
-    pub fn into_histories(self, alloc: Global) -> Result<Rows<KeyHistory>, NoMemory>
-        ensures rising { IfOk result KeysRise }
-        ensures items { IfOk result (λ histories. (key : List ℕ) → items_in_histories histories key ≡ items_at self key) }
-        ensures some { IfOk result (AllByRecursion (λ history. 0 < length history.items)) }
+    /// All writes: by key ranges, and those of a key in their order.
+    pub fn into_writes(self) -> Result<Writes<'p>, NoMemory>
+        ensures { IfOk result (λ writes. writes ≡ self.entry) }
     {
-        let mut histories = Rows::new(alloc);
-        for (key, items) in self.entries {
-            histories.push(KeyHistory { key, items })?;
+        let mut writes = self.first;
+        for part in self.parts {
+            writes.append(part.writes)?;
         }
-        Ok(histories)
+        Ok(writes)
     }
+
+    /// Notes a write.
+    fn note_one(&mut self, region: u64, index: u64, op: &'p Op) -> Result<(), NoMemory>
+        ensures ok { OnOk result (HasItems self.new (with_writes (items_at self.old) (wrote region index op.now ∷ []))) }
+        ensures err { OnErr result (self.new ≡ self.old) }
+    {
+        let write = AcceptedWrite::new(region, index, op);
+        let place = parts_to(self.parts.as_slice(), write.key());
+        if place == 0 {
+            self.first.push(write)
+        } else {
+            self.parts[place - 1].writes.push(write)
+        }
+    }
+
+    /// The maps of the keys below this one, and of the others.
+    fn split_at(self, alloc: Global, key: &Key) -> Result<(Map<'p>, Map<'p>), NoMemory>
+        ensures below { IfOk result (λ maps. HasItems maps.0 (items_below key.now (items_at self.entry))) }
+        ensures others { IfOk result (λ maps. HasItems maps.1 (items_from key.now (items_at self.entry))) }
+    {
+        let Map { first, mut parts } = self;
+        let place = parts_to(parts.as_slice(), key);
+        let behind = parts.split_off(place)?;
+        match parts.pop() {
+            None => {
+                let (below, others) = first.split_at(alloc, key)?;
+                Ok((Map::led_by(below, parts), Map::led_by(others, behind)))
+            }
+            Some(part) => {
+                let (below, others) = part.writes.split_at(alloc, key)?;
+                let parts = with_part(parts, part.start, below)?;
+                Ok((Map { first, parts }, Map::led_by(others, behind)))
+            }
+        }
+    }
+
+    /// The map of these parts, of which the first may have no write.
+    fn led_by(first: Writes<'p>, parts: Vec<Part<'p>>) -> Map<'p>
+        requires { AreApart first parts.items }
+        ensures { result ≡ written first.entry parts.entry.items }
+    {
+        let mut parts = parts;
+        if first.is_empty() && !parts.is_empty() {
+            let part = parts.remove(0);
+            return Map {
+                first: part.writes,
+                parts,
+            };
+        }
+        Map { first, parts }
+    }
+}
+
+/// The parts with one more at the end, unless it has no write.
+fn with_part<'p>(
+    parts: Vec<Part<'p>>,
+    start: Key,
+    writes: Writes<'p>,
+) -> Result<Vec<Part<'p>>, NoMemory>
+    ensures { IfOk result (λ more. more.items ≡ parts.entry.items ++ some_part start writes.entry) }
+{
+    let mut parts = parts;
+    if !writes.is_empty() {
+        parts.push(Part { start, writes })?;
+    }
+    Ok(parts)
+}
+
+/// How many of the parts begin at the key or below it.
+fn parts_to(parts: &[Part<'_>], key: &Key) -> usize
+    requires { StartsRise parts.now }
+    ensures bound { result ≤ length parts.now }
+    ensures point { IsPartitionPoint (λ p. begins_by key.now p ≡ true) (λ p. begins_by key.now p ≡ false) parts.now result }
+{
+    parts.partition_point(|part| begins_by(part, key))
+}
+
+/// Whether the part begins at the key or below it.
+fn begins_by(part: &Part<'_>, key: &Key) -> bool
+    ensures { result ≡ begins_by key.now part.now }
+{
+    !(key < &part.start)
 }

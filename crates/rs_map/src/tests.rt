@@ -1,5 +1,5 @@
 use super::*;
-use rs_entry::Item;
+use rs_entry::{Item, KeyHistory, Op};
 use rs_key::{Key, Rows};
 use std::alloc::Global;
 use std::test::Fail;
@@ -8,101 +8,74 @@ fn key(alloc: Global, text: &str) -> Result<Key, Fail> {
     Ok(Key::new(alloc, text.as_bytes())?)
 }
 
-/// Notes a deletion of the key by the entry at this index.
-fn note(map: &mut Map, alloc: Global, text: &str, index: u64) -> Result<(), Fail> {
-    let item = Item {
-        region: 1,
-        index,
-        value: None,
-    };
-    map.note(alloc, key(alloc, text)?, item)?;
+/// A deletion of each of the keys, which are words of a text.
+fn deletions(alloc: Global, text: &str) -> Result<Vec<Op>, Fail> {
+    let mut ops = Vec::new(alloc);
+    for word in text.split(' ') {
+        ops.push(Op::Delete(key(alloc, word)?))?;
+    }
+    Ok(ops)
+}
+
+/// Each key with the indexes of its items.
+fn text(alloc: Global, map: Map<'_>) -> Result<String, Fail> {
+    let mut text = String::new(alloc);
+    for history in map.into_writes()?.into_histories(alloc)?.as_slice() {
+        add(&mut text, history)?;
+    }
+    Ok(text)
+}
+
+fn add(text: &mut String, history: &KeyHistory) -> Result<(), Fail> {
+    let alloc = *text.allocator();
+    text.push_str(std::str::from_utf8(history.key.as_bytes())?)?;
+    for item in history.items.as_slice() {
+        text.push_str(format!(in alloc; "{}", item.index)?.as_str())?;
+    }
+    text.push_str(" ")?;
     Ok(())
 }
 
-/// The indexes of the key's items.
-fn indexes(map: &Map, alloc: Global, text: &str) -> Result<Vec<u64>, Fail> {
-    let mut indexes = Vec::new(alloc);
-    let Some(items) = map.get(&key(alloc, text)?) else {
-        return Ok(indexes);
-    };
-    for item in items.as_slice() {
-        indexes.push(item.index)?;
+fn cut<'p>(alloc: Global, map: Map<'p>, text: &str) -> Result<Vec<Map<'p>>, Fail> {
+    let mut keys = Rows::new(alloc);
+    for word in text.split(' ') {
+        keys.push(key(alloc, word)?)?;
     }
-    Ok(indexes)
-}
-
-/// Items of five keys, of which `k` has two.
-fn filled(alloc: Global) -> Result<Map, Fail> {
-    let mut map = Map::new(alloc);
-    for (text, index) in [("k", 6), ("z", 7), ("a", 8), ("k", 9), ("g", 10), ("p", 11)] {
-        note(&mut map, alloc, text, index)?;
-    }
-    Ok(map)
-}
-
-#[test]
-fn items_are_noted_in_their_order(rt: HostRuntime) -> Result<(), Fail> {
-    let empty = Map::new(rt.alloc());
-    assert!(rt; empty.is_empty());
-    let map = filled(rt.alloc())?;
-    assert!(rt; !map.is_empty());
-    assert_eq!(rt; map.len(), 5);
-    assert_eq!(rt;
-        indexes(&map, rt.alloc(), "k")?.as_slice(),
-        [6, 9].as_slice()
-    );
-    assert!(rt; map.get(&key(rt.alloc(), "b")?).is_none());
-    Ok(())
+    Ok(map.cut(alloc, &keys)?)
 }
 
 #[test]
 fn a_map_is_cut_at_three_keys(rt: HostRuntime) -> Result<(), Fail> {
-    let mut keys = Rows::new(rt.alloc());
-    for text in ["g", "m", "t"] {
-        keys.push(key(rt.alloc(), text)?)?;
+    let alloc = rt.alloc();
+    let ops = deletions(alloc, "k z a k g p")?;
+    let mut map = Map::new(alloc);
+    assert!(rt; map.is_empty());
+    map.note(1, 6, ops.as_slice())?;
+    map.note(1, 7, ops.as_slice())?;
+    assert!(rt; !map.is_empty());
+    let mut whole = String::new(alloc);
+    for part in cut(alloc, map, "g m t")? {
+        whole.push_str(text(alloc, part)?.as_str())?;
+        whole.push_str("| ")?;
     }
-    let parts = filled(rt.alloc())?.cut(rt.alloc(), &keys)?;
-    assert_eq!(rt; parts.len(), 4);
-    for (place, text, index) in [(0, "a", 8), (1, "g", 10), (2, "p", 11), (3, "z", 7)] {
-        let part = parts.get(place).expect(&rt, "a part");
-        assert_eq!(rt;
-            indexes(part, rt.alloc(), text)?.as_slice(),
-            [index].as_slice()
-        );
-    }
-    let second = parts.get(1).expect(&rt, "the second part");
-    assert_eq!(rt; second.len(), 2);
-    assert_eq!(rt;
-        indexes(second, rt.alloc(), "k")?.as_slice(),
-        [6, 9].as_slice()
-    );
+    assert_eq!(rt; whole.as_str(), "a67 | g67 k6677 | p67 | z67 | ");
     Ok(())
 }
 
 #[test]
-fn two_maps_are_joined(rt: HostRuntime) -> Result<(), Fail> {
-    let mut left = filled(rt.alloc())?;
-    let right = left.split_off(&key(rt.alloc(), "k")?)?;
-    assert_eq!(rt; left.len(), 2);
-    assert_eq!(rt; right.len(), 3);
-    left.join(right)?;
-    assert_eq!(rt; left.len(), 5);
-    assert_eq!(rt;
-        indexes(&left, rt.alloc(), "k")?.as_slice(),
-        [6, 9].as_slice()
-    );
-    Ok(())
-}
-
-#[test]
-fn histories_are_by_key(rt: HostRuntime) -> Result<(), Fail> {
-    let histories = filled(rt.alloc())?.into_histories(rt.alloc())?;
-    assert_eq!(rt; histories.len(), 5);
-    for (place, text) in [(0, b"a"), (1, b"g"), (2, b"k"), (3, b"p"), (4, b"z")] {
-        let history = histories.get(place).expect(&rt, "a history");
-        assert_eq!(rt; history.key.as_bytes(), text.as_slice());
+fn what_is_cut_off_is_noted_in_and_cut_again(rt: HostRuntime) -> Result<(), Fail> {
+    let alloc = rt.alloc();
+    let first = deletions(alloc, "k z a k g p")?;
+    let then = deletions(alloc, "z k m")?;
+    let mut map = Map::new(alloc);
+    map.note(1, 6, first.as_slice())?;
+    let mut right = cut(alloc, map, "k")?.pop().expect(&rt, "the right half");
+    right.note(2, 7, then.as_slice())?;
+    let mut whole = String::new(alloc);
+    for part in cut(alloc, right, "p")? {
+        whole.push_str(text(alloc, part)?.as_str())?;
+        whole.push_str("| ")?;
     }
-    let third = histories.get(2).expect(&rt, "the third history");
-    assert_eq!(rt; third.items.len(), 2);
+    assert_eq!(rt; whole.as_str(), "k667 m7 | p6 z67 | ");
     Ok(())
 }

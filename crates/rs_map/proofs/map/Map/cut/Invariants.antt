@@ -6,4 +6,4 @@ use Rattle.rs_map.proofs.map.Map.cut.Given as goal
 
 abbrev pub invariant-loop-key : goal.invariant-loop-key
 invariant-loop-key l =
-    (items : Items) (range : Bounds) → first_bad_cut range l.key-items ≡ None → IsKept items range l.fn.self → IsCutSoFar items range l.key-items l.key-index l.rest l.parts
+    (items : Items) (range : Bounds) → first_bad_cut range l.key-items ≡ None → IsKept items range l.fn.self → IsCutSoFar items range l.key-items l.key-index l.rest l.maps.items

@@ -1,7 +1,9 @@
-use Rattle.rs_map.proofs.Listing.{no_entries}
+use Rattle.std.proofs.Common.{◌∙◌, ap, sym, length}
+use Rattle.rs_map.proofs.Parted.{no_writes, some_writes}
 use Rattle.rs_map.proofs.map.Map.is_empty.Goals as goal
 
 pub returns : goal.returns
-returns c =
-    let all = no_entries c.self.inside.entries.entries c.self.invariant in
-    rw (← c.self.view_is) (λ told. all.0 (c.is_empty.ensures.0 told), λ none. c.is_empty.ensures.1 (all.1 none))
+returns c = (
+  λ none. sym c.self.view_is ∙ no_writes c.self.inside.first c.self.inside.parts.items c.self.invariant.1 (c.is_empty.ensures.0 none),
+  λ none. c.is_empty.ensures.1 (some_writes c.self.inside.first c.self.inside.parts.items (c.self.view_is ∙ none)),
+)

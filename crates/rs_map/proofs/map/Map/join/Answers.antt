@@ -1,22 +1,18 @@
-use Rattle.std.proofs.Common.{rules}
-use Rattle.rs_map.specs.Maps.{HasTakenSome}
-use Rattle.rs_map.proofs.Joining.{joined, joined_filled, taken}
+use Rattle.std.proofs.Common.{◌≡◌, true, false, ◌<◌, ◌≤◌, ◌++◌, ◌∷◌, [], ap, sym, ◌∙◌, arith, subst, length}
+use Rattle.std.proofs.lemmas.List.{append_assoc}
+use Rattle.rs_key.specs.Keys.{is_below}
+use Rattle.rs_map.specs.Maps.{AreApart, LiesBelow, LiesFrom, written}
+use Rattle.rs_map.proofs.Keys.{all_of}
+use Rattle.rs_map.proofs.Parted.{led}
+use Rattle.rs_map.proofs.Splitting.{joined_apart}
 use Rattle.rs_map.proofs.map.Map.join.Goals as goal
 
-pub invariant_of-self : goal.invariant_of-self
-invariant_of-self c = joined_filled c.self.inside.entries c.other.inside.entries c.append.ensures.other_was_ordered c.other.invariant c.append.new.self c.append.new.other c.append.ensures.moves c.self.invariant
-
-pub invariant_of-self-2 : goal.invariant_of-self-2
-invariant_of-self-2 c = joined_filled c.self.inside.entries c.other.inside.entries c.append.ensures.other_was_ordered c.other.invariant c.append.new.self c.append.new.other c.append.ensures.moves c.self.invariant
-
-pub returns-in_err-append-clause-err : goal.returns-in_err-append-clause-err
-returns-in_err-append-clause-err c =
-    let some : HasTakenSome c.args.self.now c.args.other c.append.new.self.entries =
-    rw (← c.self.view_is, ← c.other.view_is) (taken c.self.inside.entries c.other.inside.entries c.append.ensures.other_was_ordered c.other.invariant c.append.new.self
-    c.append.new.other c.append.ensures.moves (rw (c.self.view_is, c.other.view_is) c.requires.apart)) in
-    search (rules, some)
-
-pub returns-clause-ok : goal.returns-clause-ok
-returns-clause-ok c =
-    rw (← c.self.view_is, ← c.other.view_is) (joined c.self.inside.entries c.other.inside.entries c.append.ensures.other_was_ordered c.other.invariant c.append.new.self
-    c.in_ok-append.ensures.inserts_all (rw (c.self.view_is, c.other.view_is) c.requires.apart))
+pub invariant_of-result : goal.invariant_of-result
+invariant_of-result c =
+    let some : 0 < length c.others.inside.first = led c.others.inside.first c.others.inside.parts.items c.others.invariant.1 (λ none. absurd (cc (c.if-is_empty-2.false, c.is_empty-2.ensures.1 (sym c.others.view_is ∙ none)))) in
+    let led_still : 0 < length c.below.inside.first = led c.below.inside.first c.below.inside.parts.items c.below.invariant.1 (λ none. absurd (cc (c.if-is_empty.false, c.is_empty.ensures.1 (sym c.below.view_is ∙ none)))) in (
+      subst (λ l. AreApart c.below.inside.first l) (sym (c.in_ok-append.ensures.items ∙ ap (λ l. l ++ c.others.inside.parts.items) c.in_ok-push.ensures.items ∙ append_assoc c.below.inside.parts.items (record { start = c.args.at; writes = c.others.inside.first } ∷ []) c.others.inside.parts.items))
+          (joined_apart c.below.inside.first c.below.inside.parts.items c.args.at c.others.inside.first c.others.inside.parts.items c.below.invariant.0 (all_of (λ x. is_below x c.args.at) true (written c.below.inside.first c.below.inside.parts.items) (subst (λ m. LiesBelow c.args.at m) (sym c.below.view_is) c.requires.below)) some
+          (all_of (λ x. is_below x c.args.at) false (written c.others.inside.first c.others.inside.parts.items) (subst (λ m. LiesFrom c.args.at m) (sym c.others.view_is) c.requires.others)) c.others.invariant.0),
+      λ there. led_still,
+    )
