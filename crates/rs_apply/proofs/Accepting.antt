@@ -12,18 +12,18 @@ use Rattle.rs_region.specs.declared.state.RegionState.{RegionState}
 use Rattle.rs_region.specs.declared.verdict.Verdict.TheVariants as verdicts
 use Rattle.rs_order.specs.Stores.{wrote}
 use Rattle.rs_value.specs.Items.{history_of}
-use Rattle.rs_map.specs.Maps.{Entries, HasItems, items_at}
+use Rattle.rs_map.specs.Maps.{Writes, HasItems, items_at, with_writes}
 use Rattle.rs_check.specs.Lawfulness.{PlanLaws}
 use Rattle.rs_check.specs.Values.{part_at, region_of}
 use Rattle.rs_msg.specs.Held.{IsHeld}
-use Rattle.rs_apply.specs.Steps.{HasNext, IsNext, with_writes}
+use Rattle.rs_apply.specs.Steps.{HasNext, IsNext}
 use Rattle.rs_apply.proofs.NextParts.{Seen, mine, named, after}
 
-module _ (input : Input) (laws : PlanLaws input) (a i : ℕ) (e : Entry) (there : HasNext input a i e) (s : RegionState) (m : Entries) (held : IsHeld input a i s m) (accept : verdict s e ≡ verdicts.Accept) where
+module _ (input : Input) (laws : PlanLaws input) (a i : ℕ) (e : Entry) (there : HasNext input a i e) (s : RegionState) (m : Writes) (held : IsHeld input a i s m) (accept : verdict s e ≡ verdicts.Accept) where
   abbrev v : Seen (part_at input a i) s m
   v = mine input laws a i e there s m held
 
-  pub writes : (ops : List Op) (m' : Entries) → e.body ≡ body.Write ops → HasItems m' (with_writes (items_at m) (map (wrote s.region (i + 1)) ops)) → IsNext input a i s m' (reply.Done s.epoch.version ∷ [])
+  pub writes : (ops : List Op) (m' : Writes) → e.body ≡ body.Write ops → HasItems m' (with_writes (items_at m) (map (wrote s.region (i + 1)) ops)) → IsNext input a i s m' (reply.Done s.epoch.version ∷ [])
   writes ops m' is items =
       after input laws a i e there s m held accept (body.Write ops) (record { state = v.part.state; items = λ k. v.part.items k ++ history_of (map (wrote (region_of input a) (i + 1)) ops) k }) s m' is refl v.state
       (λ q. ap (λ l. l ++ history_of (map (wrote (region_of input a) (i + 1)) ops) q) (v.items q)

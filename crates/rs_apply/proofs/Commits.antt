@@ -18,7 +18,7 @@ use Rattle.rs_region.specs.declared.verdict.Verdict.TheVariants as verdicts
 use Rattle.rs_region.proofs.KeyOrder.{from_start}
 use Rattle.rs_order.specs.Stores.{is_prepared_for}
 use Rattle.rs_value.specs.Scripts.{joined_part, may_join, with_source}
-use Rattle.rs_map.specs.Maps.{Entries, HasItems, KeysApart, items_at, items_of_both}
+use Rattle.rs_map.specs.Maps.{Writes, HasItems, LiesIn, items_at, items_of_both}
 use Rattle.rs_check.specs.Lawfulness.{PlanLaws, Source}
 use Rattle.rs_check.specs.Plans.{address_of}
 use Rattle.rs_check.specs.Values.{count_of, region_of, part_on, part_at, part_in}
@@ -38,7 +38,7 @@ met (Some e) (Some s) q m b n =
     let above = from_start s q in
     cc (b, n, ap (λ z. is_below q z) same, above)
 
-next_apart : (x y : Bounds) → is_next_to x y ≡ true → (q : List ℕ) → (holds x q ≡ false) ⊎ (holds y q ≡ false)
+pub next_apart : (x y : Bounds) → is_next_to x y ≡ true → (q : List ℕ) → (holds x q ≡ false) ⊎ (holds y q ≡ false)
 next_apart x y next q = go (holds x q) (holds y q) refl refl
   where
     go : (a b : Bool) → holds x q ≡ a → holds y q ≡ b → (holds x q ≡ false) ⊎ (holds y q ≡ false)
@@ -46,8 +46,8 @@ next_apart x y next q = go (holds x q) (holds y q) refl refl
     go true false e f = inr f
     go true true e f = absurd (grind (arith, e, f, next, met x.end y.start q, met y.end x.start q))
 
-module _ (input : Input) (laws : PlanLaws input) (a i : ℕ) (e : Entry) (there : HasNext input a i e) (s : RegionState) (m : Entries) (held : IsHeld input a i s m) (accept : verdict s e ≡ verdicts.Accept)
-    (b c : ℕ) (l : List Carried) (below : b < count_of input) (same : (address_of input b).0 ≡ (address_of input a).0) (t : RegionState) (n : Entries) (source : IsHeld input b c t n) (is : e.body ≡ body.Commit (region_of input b) c l) where
+module _ (input : Input) (laws : PlanLaws input) (a i : ℕ) (e : Entry) (there : HasNext input a i e) (s : RegionState) (m : Writes) (held : IsHeld input a i s m) (accept : verdict s e ≡ verdicts.Accept)
+    (b c : ℕ) (l : List Carried) (below : b < count_of input) (same : (address_of input b).0 ≡ (address_of input a).0) (t : RegionState) (n : Writes) (source : IsHeld input b c t n) (is : e.body ≡ body.Commit (region_of input b) c l) where
   abbrev v : Seen (part_at input a i) s m
   v = mine input laws a i e there s m held
 
@@ -75,22 +75,22 @@ module _ (input : Input) (laws : PlanLaws input) (a i : ℕ) (e : Entry) (there 
   pub next_to : is_next_to s.range t.range ≡ true
   next_to = ap (λ z. is_next_to z.range t.range) (sym v.state) ∙ ap (λ z. is_next_to v.part.state.range z.range) (sym u.state) ∙ next_there
 
-  pub keys_apart : KeysApart m n
-  keys_apart q = ⊎_elim
-      (λ out. inl (sym (v.items q) ∙ laws.inside a i v.part q there.below v.is out))
-      (λ out. inr (sym (u.items q) ∙ laws.inside b c u.part q below u.is out))
-      (next_apart v.part.state.range u.part.state.range next_there q)
+  pub inside_target : LiesIn s.range m
+  inside_target q out = sym (v.items q) ∙ laws.inside a i v.part q there.below v.is (ap (λ z. holds z.range q) v.state ∙ out)
+
+  pub inside_source : LiesIn t.range n
+  inside_source q out = sym (u.items q) ∙ laws.inside b c u.part q below u.is (ap (λ z. holds z.range q) u.state ∙ out)
 
   pub small_source : t.epoch.version < 2 ^ 62
   small_source = subst (λ z. z.epoch.version < 2 ^ 62) u.state (laws.small b c u.part below u.is).0
 
-  pub commits : (s' : RegionState) (m' : Entries) → s' ≡ committed s t → HasItems m' (items_of_both (items_at m) (items_at n)) → IsNext input a i s' m' (reply.Done s'.epoch.version ∷ [])
+  pub commits : (s' : RegionState) (m' : Writes) → s' ≡ committed s t → HasItems m' (items_of_both (items_at m) (items_at n)) → IsNext input a i s' m' (reply.Done s'.epoch.version ∷ [])
   commits s' m' state items =
       after input laws a i e there s m held accept (body.Commit (region_of input b) c l) (joined_part v.part u.part) s' m' is (made_by input laws a i e there s m held accept (body.Commit (region_of input b) c l) is ∙ joined.next)
       (ap (λ z. committed z u.part.state) v.state ∙ ap (committed s) u.state ∙ sym state)
       (λ q. ap (λ k. k ++ u.part.items q) (v.items q) ∙ ap (λ k. items_at m q ++ k) (u.items q) ∙ sym (items q))
 
 -- the source of an accepted commit
-pub source_of : (input : Input) (laws : PlanLaws input) (a i : ℕ) (e : Entry) (there : HasNext input a i e) (s : RegionState) (m : Entries) (held : IsHeld input a i s m) → verdict s e ≡ verdicts.Accept → (q c : ℕ) (l : List Carried) → e.body ≡ body.Commit q c l → Source input a q c
+pub source_of : (input : Input) (laws : PlanLaws input) (a i : ℕ) (e : Entry) (there : HasNext input a i e) (s : RegionState) (m : Writes) (held : IsHeld input a i s m) → verdict s e ≡ verdicts.Accept → (q c : ℕ) (l : List Carried) → e.body ≡ body.Commit q c l → Source input a q c
 source_of input laws a i e there s m held accept q c l is =
     laws.merges a i (mine input laws a i e there s m held).part e q c l there.below (is_accepted input laws a i e there s m held accept) is

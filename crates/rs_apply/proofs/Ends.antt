@@ -3,7 +3,7 @@ use Rattle.std.proofs.Common.{◌≡◌, ℕ, ◌<◌, Some, ap, sym, ◌∙◌}
 use Rattle.rs_entry.specs.declared.input.Input.{Input}
 use Rattle.rs_entry.specs.declared.outcome.Mode.TheVariants as mode
 use Rattle.rs_region.specs.declared.state.RegionState.{RegionState}
-use Rattle.rs_map.specs.Maps.{Entries}
+use Rattle.rs_map.specs.Maps.{Writes}
 use Rattle.rs_check.specs.Lawfulness.{PlanLaws}
 use Rattle.rs_check.specs.Plans.{address_of, ends_of, stop_of}
 use Rattle.rs_check.specs.Values.{count_of, part_at, part_on, region_of}
@@ -15,7 +15,7 @@ use Rattle.rs_apply.proofs.NextParts.{seen}
 same_parts : (input : Input) (a b i : ℕ) → (address_of input b).0 ≡ (address_of input a).0 → (address_of input b).1 ≡ (address_of input a).1 → part_at input b i ≡ part_at input a i
 same_parts input a b i store region = ap (λ r. part_on input b r i) region ∙ on_store input a b (region_of input a) i store
 
-pub merging_at_stop : (input : Input) (laws : PlanLaws input) (a target : ℕ) (s : RegionState) (m : Entries) → a < count_of input → ends_of input a ≡ mode.Merged target → IsHeld input a (stop_of input a) s m → s.mode ≡ mode.Merging target (stop_of input a)
+pub merging_at_stop : (input : Input) (laws : PlanLaws input) (a target : ℕ) (s : RegionState) (m : Writes) → a < count_of input → ends_of input a ≡ mode.Merged target → IsHeld input a (stop_of input a) s m → s.mode ≡ mode.Merging target (stop_of input a)
 merging_at_stop input laws a target s m below ends held =
     let there = laws.merged a target below ends in
     let source = laws.merges there.b there.i there.part there.entry (region_of input a) (stop_of input a) there.carried there.placed.within there.accepted there.body in

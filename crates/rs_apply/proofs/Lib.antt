@@ -1,5 +1,5 @@
-mod SplitAndMergeLaws
 pub mod Accepting
+pub mod Borders
 pub mod Coming
 pub mod Commits
 pub mod Ends
@@ -12,4 +12,3 @@ pub mod Running
 pub mod Sending
 pub mod Splitting
 pub mod TakenOut
-pub mod Writing

@@ -13,31 +13,31 @@ use Rattle.rs_region.specs.declared.verdict.Verdict.TheVariants as verdicts
 use Rattle.rs_order.specs.Stores.{is_accept, reply_to}
 use Rattle.rs_value.specs.Parts.{Part}
 use Rattle.rs_value.specs.Scripts.{accepted, after_by}
-use Rattle.rs_map.specs.Maps.{Entries, items_at}
+use Rattle.rs_map.specs.Maps.{Writes, items_at}
 use Rattle.rs_check.specs.Lawfulness.{Accepted, PlanLaws}
 use Rattle.rs_check.specs.Values.{region_of, part_on, part_at, entry_at, reply_by}
 use Rattle.rs_msg.specs.Held.{state_in, items_in, IsPartOf, IsHeld}
 use Rattle.rs_apply.specs.Steps.{HasNext, IsNext}
 
 -- a part that is there
-pub record Seen (o : Option Part) (s : RegionState) (m : Entries) : Type 0 where
+pub record Seen (o : Option Part) (s : RegionState) (m : Writes) : Type 0 where
   pub part : Part
   pub is : o ≡ Some part
   pub state : part.state ≡ s
   pub items : (key : List ℕ) → part.items key ≡ items_at m key
 
-pub seen : (o : Option Part) (s : RegionState) (m : Entries) → IsPartOf o s m → Seen o s m
+pub seen : (o : Option Part) (s : RegionState) (m : Writes) → IsPartOf o s m → Seen o s m
 seen None s m h = absurd (cc h.state)
 seen (Some v) s m h = record { part = v; is = refl; state = cc h.state; items = λ key. cc (h.items key) }
 
-pub shown : (o : Option Part) (s : RegionState) (m : Entries) (w : Part) → o ≡ Some w → w.state ≡ s → ((key : List ℕ) → w.items key ≡ items_at m key) → IsPartOf o s m
+pub shown : (o : Option Part) (s : RegionState) (m : Writes) (w : Part) → o ≡ Some w → w.state ≡ s → ((key : List ℕ) → w.items key ≡ items_at m key) → IsPartOf o s m
 shown o s m w is state items = record { state = ap state_in is ∙ ap Some state; items = λ key. ap (λ p. items_in p key) is ∙ ap Some (items key) }
 
 pub no_part : (o : Option Part) → None ≡ o → IsSome o → ⊥
 no_part None f h = absurd (cc h)
 no_part (Some w) f h = cc f
 
-module _ (input : Input) (laws : PlanLaws input) (a i : ℕ) (e : Entry) (there : HasNext input a i e) (s : RegionState) (m : Entries) (held : IsHeld input a i s m) where
+module _ (input : Input) (laws : PlanLaws input) (a i : ℕ) (e : Entry) (there : HasNext input a i e) (s : RegionState) (m : Writes) (held : IsHeld input a i s m) where
   pub mine : Seen (part_at input a i) s m
   mine = seen (part_at input a i) s m held
 
@@ -61,7 +61,7 @@ module _ (input : Input) (laws : PlanLaws input) (a i : ℕ) (e : Entry) (there 
   part_after = laws.reached a (i + 1) there.below (let h = there.since in omega (arith, h)) (let h = there.within in omega (arith, h))
 
   -- where the next part is known
-  known : (w : Part) (s' : RegionState) (m' : Entries) (r : List Reply) → part_at input a (i + 1) ≡ Some w → w.state ≡ s' → ((key : List ℕ) → w.items key ≡ items_at m' key)
+  known : (w : Part) (s' : RegionState) (m' : Writes) (r : List Reply) → part_at input a (i + 1) ≡ Some w → w.state ≡ s' → ((key : List ℕ) → w.items key ≡ items_at m' key)
       → reply_to (verdict s e) e.body s' ≡ r → IsNext input a i s' m' r
   known w s' m' r is state items reply = (
     shown (part_at input a (i + 1)) s' m' w is state items,
@@ -91,6 +91,6 @@ module _ (input : Input) (laws : PlanLaws input) (a i : ℕ) (e : Entry) (there 
     pub made_by : (b : Body) → e.body ≡ b → accepted (part_on input a) (region_of input a) (i + 1) mine.part b ≡ part_at input a (i + 1)
     made_by b body = ap (accepted (part_on input a) (region_of input a) (i + 1) mine.part) (sym body) ∙ by verdicts.Accept accept
 
-    pub after : (b : Body) (w : Part) (s' : RegionState) (m' : Entries) → e.body ≡ b → accepted (part_on input a) (region_of input a) (i + 1) mine.part b ≡ Some w → w.state ≡ s' → ((key : List ℕ) → w.items key ≡ items_at m' key)
+    pub after : (b : Body) (w : Part) (s' : RegionState) (m' : Writes) → e.body ≡ b → accepted (part_on input a) (region_of input a) (i + 1) mine.part b ≡ Some w → w.state ≡ s' → ((key : List ℕ) → w.items key ≡ items_at m' key)
         → IsNext input a i s' m' (reply.Done s'.epoch.version ∷ [])
     after b w s' m' body is state items = known w s' m' _ (sym (made_by b body) ∙ is) state items (ap (λ z. reply_to z e.body s') accept)

@@ -14,7 +14,7 @@ use Rattle.rs_order.specs.declared.regions.Origin.TheVariants as origins
 use Rattle.rs_order.specs.Stores.{Stepped, Went, born, entries_in, first_some, no_regions, opening, then_advance, with_regions}
 use Rattle.rs_value.specs.Items.{items_in, no_items}
 use Rattle.rs_value.specs.Parts.{Part, at, first_part, part_if, part_when}
-use Rattle.rs_map.specs.Maps.{Entries, HasItems}
+use Rattle.rs_map.specs.Maps.{Writes, HasItems}
 use Rattle.rs_check.specs.Values.{part_at, part_in, part_on, region_of, store_at}
 use Rattle.rs_msg.specs.Held.{IsHeld}
 use Rattle.rs_apply.specs.Findings.{boot_in, boot_of}
@@ -66,6 +66,6 @@ unfolding part_on
 on_boot input a None b e h = absurd (cc h)
 on_boot input a (Some s) b e h = ap (λ o. part_in o (region_of input a) 5) e ∙ boot_part s (region_of input a) b h
 
-pub held_at_start : (input : Input) (a : ℕ) (b : Boot) (s : RegionState) (m : Entries) → boot_of input a ≡ Some b → s ≡ boot b.region b.range b.peers → HasItems m no_items → IsHeld input a 5 s m
+pub held_at_start : (input : Input) (a : ℕ) (b : Boot) (s : RegionState) (m : Writes) → boot_of input a ≡ Some b → s ≡ boot b.region b.range b.peers → HasItems m no_items → IsHeld input a 5 s m
 held_at_start input a b s m found state items =
     shown (part_at input a 5) s m (opened b) (on_boot input a (store_at input a) b refl found) (sym state) (λ key. nothing_in (holds b.range key) ∙ sym (items key))

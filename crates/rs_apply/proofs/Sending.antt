@@ -1,19 +1,10 @@
 -- Births that are sent one after another.
-use Rattle.std.proofs.Common.{ℕ, List, [], ◌∷◌, ◌++◌, ap, sym, ◌∙◌, Result, Ok, Err}
-use Rattle.std.specs.Prelude.{OnOk, IfOk}
+use Rattle.std.proofs.Common.{ℕ, List, [], ◌∷◌, ◌++◌, ap, sym, ◌∙◌}
 use Rattle.std.proofs.lemmas.List.{append_assoc, append-nil}
 use Rattle.rs_entry.specs.declared.input.Input.{Input}
 use Rattle.rs_region.specs.declared.state.RegionState.{RegionState}
 use Rattle.rs_msg.specs.declared.messages.ApplyMsg.{ApplyMsg}
 use Rattle.rs_apply.specs.Births.{AreBirths, AddsBirths}
-
-pub if_ok : {A B : Type 0} (r : Result A B) (P Q : Type 0) → OnOk r P → (P → Q) → OnOk r Q
-if_ok (Ok x) P Q p f = f p
-if_ok (Err e) P Q p f = tt
-
-pub if_ok_with : {A B : Type 0} (r : Result A B) (P Q : A → Type 0) → IfOk r P → ((x : A) → P x → Q x) → IfOk r Q
-if_ok_with (Ok x) P Q p f = f x p
-if_ok_with (Err e) P Q p f = tt
 
 both_births : (input : Input) (a : ℕ) (states more : List RegionState) (ps qs : List (ℕ × ApplyMsg)) → AreBirths input a states ps → AreBirths input a more qs → AreBirths input a (states ++ more) (ps ++ qs)
 both_births input a [] more [] qs h k = k

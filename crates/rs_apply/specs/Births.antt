@@ -12,7 +12,7 @@ use Rattle.rs_region.specs.declared.state.RegionState.{RegionState}
 use Rattle.rs_region.specs.declared.verdict.Verdict.{Verdict}
 use Rattle.rs_region.specs.declared.verdict.Verdict.TheVariants as verdicts
 use Rattle.rs_value.specs.Parts.{Part}
-use Rattle.rs_map.specs.Maps.{Entries}
+use Rattle.rs_map.specs.Maps.{Writes}
 use Rattle.rs_check.specs.Lawfulness.{Placed}
 use Rattle.rs_check.specs.Values.{part_at, entry_at}
 use Rattle.rs_msg.specs.declared.messages.ApplyMsg.{ApplyMsg}
@@ -43,22 +43,22 @@ made_from input a i n = each_of (made_at input a) i n
 -- ---- their states and maps
 
 -- a region that begins with this state and this map, on the store of the address
-pub record BornWith (input : Input) (a : ℕ) (s : RegionState) (m : Entries) : Type 0 where
+pub record BornWith (input : Input) (a : ℕ) (s : RegionState) (m : Writes) : Type 0 where
   pub b : ℕ
   pub placed : Placed input a s.region b
   pub held : IsHeld input b 5 s m
 
-abbrev pub IsBorn : Input → ℕ → RegionState → Option Entries → Type 0
+abbrev pub IsBorn : Input → ℕ → RegionState → Option Writes → Type 0
 IsBorn input a s None = ⊥
 IsBorn input a s (Some m) = BornWith input a s m
 
-abbrev pub AreBorn : Input → ℕ → List RegionState → List Entries → Type 0
+abbrev pub AreBorn : Input → ℕ → List RegionState → List Writes → Type 0
 AreBorn input a [] maps = Unit {0}
 AreBorn input a (s ∷ states) [] = ⊥
 AreBorn input a (s ∷ states) (m ∷ maps) = BornWith input a s m × AreBorn input a states maps
 
 -- of the maps from left to right, the one that the split region keeps, and the rest
-abbrev pub IsKeeping : Side → List Entries → Entries → List Entries → Type 0
+abbrev pub IsKeeping : Side → List Writes → Writes → List Writes → Type 0
 IsKeeping sides.Right all kept rest = all ≡ rest ++ kept ∷ []
 IsKeeping sides.Left all kept rest = all ≡ kept ∷ rest
 

@@ -6,5 +6,4 @@ pub mod Machines
 pub mod Merges
 pub mod Reshapings
 pub mod Runs
-pub mod SplitAndMerge
 pub mod Steps

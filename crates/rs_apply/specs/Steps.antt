@@ -4,9 +4,7 @@ use Rattle.rs_entry.specs.declared.entry.Entry.{Entry}
 use Rattle.rs_entry.specs.declared.input.Input.{Input}
 use Rattle.rs_entry.specs.declared.outcome.Reply.{Reply}
 use Rattle.rs_region.specs.declared.state.RegionState.{RegionState}
-use Rattle.rs_order.specs.Stores.{Wrote}
-use Rattle.rs_value.specs.Items.{Items, history_of}
-use Rattle.rs_map.specs.Maps.{Entries}
+use Rattle.rs_map.specs.Maps.{Writes}
 use Rattle.rs_check.specs.Plans.{stop_of}
 use Rattle.rs_check.specs.Values.{count_of, part_at, entry_at, reply_by}
 use Rattle.rs_msg.specs.Held.{IsHeld}
@@ -19,13 +17,9 @@ pub record HasNext (input : Input) (a i : ℕ) (e : Entry) : Type 0 where
   pub entry : entry_at input a (i + 1) ≡ Some e
 
 -- the state and the map after the entry that follows the index, and what it is answered
-abbrev pub IsNext : Input → ℕ → ℕ → RegionState → Entries → List Reply → Type 0
+abbrev pub IsNext : Input → ℕ → ℕ → RegionState → Writes → List Reply → Type 0
 IsNext input a i s m replies =
     IsHeld input a (i + 1) s m × (reply_by (part_at input a i) (entry_at input a (i + 1)) (part_at input a (i + 1)) ≡ replies)
-
--- the items with the writes after them
-abbrev pub with_writes : Items → List Wrote → Items
-with_writes items writes key = items key ++ history_of writes key
 
 -- of each of the n entries that follow the index, in their order
 abbrev pub each_of : {A : Type 0} → (ℕ → List A) → ℕ → ℕ → List A

@@ -6,7 +6,7 @@ ghost use Rattle.std.specs.Option.{option_copied};
 ghost use Rattle.rs_check.specs.Lawfulness.{PlanLaws};
 ghost use Rattle.rs_check.specs.Values.{count_of};
 ghost use Rattle.rs_apply.specs.Findings.{boot_in, boot_of};
-ghost use Rattle.rs_apply.specs.Handling.{IsBornNow, IsOpened};
+ghost use Rattle.rs_apply.specs.Handling.{IsBornIf, IsOpened};
 ghost use Rattle.rs_apply.specs.Machines.{IsTied};
 
 use crate::progress::Life;
@@ -67,7 +67,7 @@ fn first_boot(boots: &[Boot], region: u64) -> Option<&Boot>
     boots.iter().find(|b| b.region == region)
 }
 
-/// What a machine has after the Birth of its region.
+/// What a machine has after a Birth. A piece of another address changes nothing.
 pub fn born<'p>(
     plan: &'p Plan,
     address: u32,
@@ -78,11 +78,13 @@ pub fn born<'p>(
     requires laws { PlanLaws plan.now }
     requires below { address < count_of plan.now }
     requires plan { piece.plan.now ≡ plan.now }
-    requires address { piece.address ≡ address }
     requires tied { IsTied plan address life }
     ensures tied { IsTied plan.entry address result }
-    ensures born { IsBornNow life.entry result }
+    ensures born { IsBornIf (piece.entry.address == address) life.entry result }
 {
+    if piece.address() != address {
+        return life;
+    }
     match life {
         Life::Unborn => {
             let (state, map) = piece.take();

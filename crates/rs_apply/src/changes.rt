@@ -28,7 +28,7 @@ pub fn change<'p>(
     next: Next<'p>,
     why: Verdict,
     state: &mut RegionState,
-    map: &mut Map,
+    map: &mut Map<'p>,
     closed: &mut Vec<Closed<'p>>,
     out: &mut Outbox<'p>,
 ) -> Result<Option<Reply>, NoMemory>
@@ -56,7 +56,7 @@ pub fn change<'p>(
 fn accept<'p>(
     next: Next<'p>,
     state: &mut RegionState,
-    map: &mut Map,
+    map: &mut Map<'p>,
     closed: &mut Vec<Closed<'p>>,
     out: &mut Outbox<'p>,
 ) -> Result<Reply, NoMemory>

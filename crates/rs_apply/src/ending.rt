@@ -3,7 +3,7 @@
 ghost use Rattle.std.specs.Prelude.{◌≡◌, ◌-◌, ◌<◌, List, Some, OnOk, IfOk};
 ghost use Rattle.std.specs.Option.{is_some};
 ghost use Rattle.rs_entry.specs.declared.outcome.Mode.TheVariants as modes;
-ghost use Rattle.rs_map.specs.Maps.{Entries};
+ghost use Rattle.rs_map.specs.Maps.{Writes};
 ghost use Rattle.rs_check.specs.Lawfulness.{PlanLaws};
 ghost use Rattle.rs_check.specs.Plans.{stop_of, ends_of};
 ghost use Rattle.rs_check.specs.Values.{count_of, replies_to};
@@ -51,14 +51,14 @@ fn leave<'p>(
     plan: &'p Plan,
     address: u32,
     state: &RegionState,
-    map: Map,
+    map: Map<'p>,
     applies: &mut Rows<(u32, ApplyMsg<'p>)>,
-) -> Result<Option<Map>, NoMemory>
+) -> Result<Option<Map<'p>>, NoMemory>
     requires laws { PlanLaws plan.now }
     requires below { address < count_of plan.now }
     requires held { IsHeld plan.now address (stop_of plan.now address) state.now map }
     ensures there { IfOk result (λ left. is_some left ≡ leaves_map (ends_of plan.now address)) }
-    ensures same { IfOk result (λ left. (m : Entries) → left ≡ Some m → m ≡ map) }
+    ensures same { IfOk result (λ left. (m : Writes) → left ≡ Some m → m ≡ map.entry) }
     ensures applies { OnOk result (HandsOver plan.now address (ends_of plan.now address) applies.old applies.new) }
 {
     match plan.ends(address) {
@@ -76,7 +76,7 @@ fn hand_over<'p>(
     address: u32,
     target: u64,
     state: RegionState,
-    map: Map,
+    map: Map<'p>,
     applies: &mut Rows<(u32, ApplyMsg<'p>)>,
 ) -> Result<(), NoMemory>
     requires laws { PlanLaws plan.now }

@@ -1,9 +1,11 @@
-ghost use Rattle.std.specs.Prelude.{◌≡◌, ◌++◌, ◌∷◌, [], Some, None, OnOk, IfOk};
+ghost use Rattle.std.specs.Prelude.{◌≡◌, ◌++◌, ◌∷◌, [], true, false, Some, None, OnOk, IfOk, MatchOption};
 ghost use Rattle.std.specs.List.{All};
+ghost use Rattle.rs_key.specs.Ranges.{is_next_to, meets};
 ghost use Rattle.rs_entry.specs.declared.entry.Body.TheVariants as body;
 ghost use Rattle.rs_region.specs.Verdicts.{verdict};
 ghost use Rattle.rs_region.specs.declared.verdict.Verdict.TheVariants as verdicts;
 ghost use Rattle.rs_order.specs.Runs.{line_entry};
+ghost use Rattle.rs_map.specs.Maps.{HasItems, LiesIn, items_at, items_of_both};
 ghost use Rattle.rs_check.specs.Lawfulness.{PlanLaws};
 ghost use Rattle.rs_check.specs.Plans.{address_of};
 ghost use Rattle.rs_check.specs.Values.{region_of};
@@ -14,16 +16,17 @@ ghost use Rattle.rs_apply.specs.Steps.{IsNext};
 use crate::held::take_closed;
 use crate::next::Next;
 use rs_entry::{Carried, Reply};
-use rs_key::{NoMemory, Rows};
+use rs_key::{Key, NoMemory, Range, Rows, TryClone};
 use rs_map::Map;
 use rs_msg::{Closed, PeerMsg};
 use rs_region::RegionState;
+use std::mem;
 
 /// Applies an accepted commit whose source has handed over, and tells the source's peer.
 pub fn merge<'p>(
     next: Next<'p>,
     state: &mut RegionState,
-    map: &mut Map,
+    map: &mut Map<'p>,
     merge: (u64, u64),
     carried: &Rows<Carried>,
     closed: &mut Vec<Closed<'p>>,
@@ -56,7 +59,7 @@ pub fn merge<'p>(
 fn commit<'p>(
     next: Next<'p>,
     state: &mut RegionState,
-    map: &mut Map,
+    map: &mut Map<'p>,
     source: Closed<'p>,
     carried: &Rows<Carried>,
 ) -> Result<Reply, NoMemory>
@@ -69,7 +72,35 @@ fn commit<'p>(
     ensures { IfOk result (λ r. IsNext next.entry.plan.now next.entry.address next.entry.index state.new map.new (r ∷ [])) }
 {
     let (mut state_there, items) = source.take();
-    map.join(items)?;
+    let whole = mem::replace(map, Map::new(carried.allocator()));
+    let both = join(&state.range, whole, &state_there.range, items)?;
+    let _empty = mem::replace(map, both);
     state.exec_commit(&mut state_there)?;
     Ok(Reply::Done(state.epoch.version))
+}
+
+/// The map of both ranges, which lie side by side.
+fn join<'p>(range: &Range, map: Map<'p>, other: &Range, items: Map<'p>) -> Result<Map<'p>, NoMemory>
+    requires next { is_next_to range.now other.now ≡ true }
+    requires map { LiesIn range.now map }
+    requires items { LiesIn other.now items }
+    ensures { IfOk result (λ both. HasItems both (items_of_both (items_at map.entry) (items_at items.entry))) }
+{
+    if let Some(at) = border(range, other) {
+        return Map::join(map, at.try_clone()?, items);
+    }
+    if let Some(at) = border(other, range) {
+        return Map::join(items, at.try_clone()?, map);
+    }
+    unreachable!()
+}
+
+/// The key at which the left range ends and the right one begins; None exactly where there is none.
+fn border<'r>(left: &'r Range, right: &Range) -> Option<&'r Key>
+    ensures { MatchOption result (meets left.now.end right.now.start ≡ false) (λ at. (left.now.end ≡ Some at.now) × (right.now.start ≡ Some at.now)) }
+{
+    match (left.end(), right.start()) {
+        (Some(end), Some(start)) if end == start => Some(end),
+        _ => None,
+    }
 }

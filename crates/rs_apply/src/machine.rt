@@ -88,12 +88,12 @@ impl<'p> ApplyFsm<'p> {
         match msg {
             ApplyMsg::Task { upto, .. } => self.named = self.named.max(upto),
             ApplyMsg::Birth { piece } => {
+                self.plan.laws();
+                let life = mem::replace(&mut self.life, Life::Unborn);
                 let piece = Box::into_inner(piece);
-                if piece.address() == self.address {
-                    self.plan.laws();
-                    let life = mem::replace(&mut self.life, Life::Unborn);
-                    self.life = born(self.plan, self.address, life, piece, out.peers.allocator());
-                }
+                let alloc = out.peers.allocator();
+                let life = born(self.plan, self.address, life, piece, alloc);
+                drop(mem::replace(&mut self.life, life));
             }
             ApplyMsg::CatchUpLogs { target, commit, .. } => {
                 self.caught = self.caught || ends_by(self.plan, self.address, target, commit);
@@ -103,6 +103,8 @@ impl<'p> ApplyFsm<'p> {
                 let merged = merges_so_far(self.plan, self.address, &self.life);
                 if is_new(self.plan, self.address, &self.closed, merged, &closed) {
                     self.closed.push(closed)?;
+                } else {
+                    drop(closed);
                 }
             }
             ApplyMsg::Noop { .. } => {}

@@ -30,7 +30,7 @@ pub struct Region<'p> {
     /// The index of the last entry that it has applied.
     pub index: u64,
     pub state: RegionState,
-    pub map: Map,
+    pub map: Map<'p>,
     pub replies: Rows<ReplyLine>,
     /// The merges that it has committed, by their sources and the indexes of their prepares.
     pub merged: Rows<(u64, u64)>,
@@ -52,7 +52,7 @@ impl<'p> Region<'p> {
         plan: &'p Plan,
         address: u32,
         state: RegionState,
-        map: Map,
+        map: Map<'p>,
         alloc: Global,
     ) -> Region<'p>
         requires laws { PlanLaws plan.now }

@@ -21,7 +21,7 @@ use std::mem;
 pub fn split<'p>(
     next: Next<'p>,
     state: &mut RegionState,
-    map: &mut Map,
+    map: &mut Map<'p>,
     side: Side,
     ids: &Rows<u64>,
     keys: &Rows<Key>,
@@ -41,16 +41,16 @@ pub fn split<'p>(
     let Some((kept, rest)) = keep(side, parts) else {
         unreachable!()
     };
-    *map = kept;
+    let _empty = mem::replace(map, kept);
     send_all(next, states, rest, applies)?;
     Ok(Reply::Done(state.epoch.version))
 }
 
 /// The map that the split region keeps, and the others.
-fn keep(side: Side, parts: Rows<Map>) -> Option<(Map, Vec<Map>)>
-    ensures { MatchOption result (parts ≡ []) (λ r. IsKeeping side parts r.0 r.1.items) }
+fn keep<'p>(side: Side, parts: Vec<Map<'p>>) -> Option<(Map<'p>, Vec<Map<'p>>)>
+    ensures { MatchOption result (parts.entry.items ≡ []) (λ r. IsKeeping side parts.entry.items r.0 r.1.items) }
 {
-    let mut rest = parts.into_vec();
+    let mut rest = parts;
     match side {
         Side::Right => match rest.pop() {
             None => None,
@@ -71,7 +71,7 @@ fn keep(side: Side, parts: Rows<Map>) -> Option<(Map, Vec<Map>)>
 fn send_all<'p>(
     next: Next<'p>,
     states: Rows<RegionState>,
-    maps: Vec<Map>,
+    maps: Vec<Map<'p>>,
     applies: &mut Rows<(u32, ApplyMsg<'p>)>,
 ) -> Result<(), NoMemory>
     requires born { AreBorn next.plan.now next.address states maps.items }
@@ -87,7 +87,7 @@ fn send_all<'p>(
 fn send<'p>(
     next: Next<'p>,
     state: RegionState,
-    map: Option<Map>,
+    map: Option<Map<'p>>,
     applies: &mut Rows<(u32, ApplyMsg<'p>)>,
 ) -> Result<(), NoMemory>
     requires born { IsBorn next.plan.now next.address state map }

@@ -1,72 +1,27 @@
 //! The entries that change one region alone.
 
-ghost use Rattle.std.specs.Prelude.{◌≡◌, ◌+◌, ◌∷◌, [], false, map as map_list, option_to_list, OnOk, IfOk};
+ghost use Rattle.std.specs.Prelude.{◌≡◌, ◌+◌, ◌∷◌, [], false, option_to_list, IfOk};
 ghost use Rattle.rs_entry.specs.declared.entry.Body.TheVariants as body;
 ghost use Rattle.rs_region.specs.Verdicts.{verdict};
 ghost use Rattle.rs_region.specs.declared.verdict.Verdict.TheVariants as verdicts;
 ghost use Rattle.rs_order.specs.Runs.{line_entry};
-ghost use Rattle.rs_order.specs.Stores.{is_accept, wrote};
-ghost use Rattle.rs_map.specs.Maps.{HasItems, items_at};
+ghost use Rattle.rs_order.specs.Stores.{is_accept};
 ghost use Rattle.rs_check.specs.Lawfulness.{PlanLaws};
 ghost use Rattle.rs_msg.specs.Held.{IsHeld};
-ghost use Rattle.rs_apply.specs.Steps.{IsNext, with_writes};
+ghost use Rattle.rs_apply.specs.Steps.{IsNext};
 
 use crate::next::Next;
-use rs_entry::{Change, Item, Op, Reply};
-use rs_key::{NoMemory, Rows, TryClone};
+use rs_entry::{Change, Op, Reply};
+use rs_key::{NoMemory, Rows};
 use rs_map::Map;
 use rs_order::refusal;
 use rs_region::{RegionState, Verdict};
-use std::alloc::Global;
-
-/// Notes what the operation of an entry writes.
-#[tactic(auto, using(crate::proofs::Writing::noted_one))]
-fn note_op(map: &mut Map, alloc: Global, region: u64, index: u64, op: &Op) -> Result<(), NoMemory>
-    ensures { OnOk result (HasItems map.new (with_writes (items_at map.old) (wrote region index op.now ∷ []))) }
-{
-    match op {
-        Op::Put(key, value) => {
-            let value = Some(value.try_clone()?);
-            map.note(
-                alloc,
-                key.try_clone()?,
-                Item {
-                    region,
-                    index,
-                    value,
-                },
-            )
-        }
-        Op::Delete(key) => {
-            let value = None;
-            map.note(
-                alloc,
-                key.try_clone()?,
-                Item {
-                    region,
-                    index,
-                    value,
-                },
-            )
-        }
-    }
-}
-
-/// Notes what the operations of an entry write.
-fn note_all(map: &mut Map, region: u64, index: u64, ops: &Rows<Op>) -> Result<(), NoMemory>
-    ensures { OnOk result (HasItems map.new (with_writes (items_at map.old) (map_list (wrote region index) ops.now))) }
-{
-    for op in ops.as_slice() {
-        note_op(map, ops.allocator(), region, index, op)?;
-    }
-    Ok(())
-}
 
 /// Answers an entry that isn't accepted, which changes nothing.
 pub fn refuse(
     next: Next<'_>,
     state: &RegionState,
-    map: &Map,
+    map: &Map<'_>,
     why: Verdict,
 ) -> Result<Option<Reply>, NoMemory>
     requires laws { PlanLaws next.plan.now }
@@ -79,11 +34,11 @@ pub fn refuse(
 }
 
 /// Applies an accepted write.
-pub fn write(
-    next: Next<'_>,
+pub fn write<'p>(
+    next: Next<'p>,
     state: &RegionState,
-    map: &mut Map,
-    ops: &Rows<Op>,
+    map: &mut Map<'p>,
+    ops: &'p Rows<Op>,
 ) -> Result<Reply, NoMemory>
     requires laws { PlanLaws next.plan.now }
     requires held { IsHeld next.plan.now next.address next.index state.now map.old }
@@ -91,12 +46,12 @@ pub fn write(
     requires body { (line_entry next.line).body ≡ body.Write ops.now }
     ensures { IfOk result (λ r. IsNext next.entry.plan.now next.entry.address next.entry.index state.now map.new (r ∷ [])) }
 {
-    note_all(map, state.region, next.index + 1, ops)?;
+    map.note(state.region, next.index + 1, ops.as_slice())?;
     Ok(Reply::Done(state.epoch.version))
 }
 
 /// Applies an accepted prepare.
-pub fn prepare(next: Next<'_>, state: &mut RegionState, map: &Map, target: u64) -> Reply
+pub fn prepare(next: Next<'_>, state: &mut RegionState, map: &Map<'_>, target: u64) -> Reply
     requires laws { PlanLaws next.plan.now }
     requires held { IsHeld next.plan.now next.address next.index state.old map.now }
     requires accept { verdict state.old (line_entry next.line) ≡ verdicts.Accept }
@@ -108,7 +63,7 @@ pub fn prepare(next: Next<'_>, state: &mut RegionState, map: &Map, target: u64) 
 }
 
 /// Applies an accepted rollback.
-pub fn roll_back(next: Next<'_>, state: &mut RegionState, map: &Map, commit: u64) -> Reply
+pub fn roll_back(next: Next<'_>, state: &mut RegionState, map: &Map<'_>, commit: u64) -> Reply
     requires laws { PlanLaws next.plan.now }
     requires held { IsHeld next.plan.now next.address next.index state.old map.now }
     requires accept { verdict state.old (line_entry next.line) ≡ verdicts.Accept }
@@ -123,7 +78,7 @@ pub fn roll_back(next: Next<'_>, state: &mut RegionState, map: &Map, commit: u64
 pub fn conf(
     next: Next<'_>,
     state: &mut RegionState,
-    map: &Map,
+    map: &Map<'_>,
     change: &Change,
 ) -> Result<Reply, NoMemory>
     requires laws { PlanLaws next.plan.now }

@@ -1,2 +1,1 @@
-pub mod SmallInputLaws
 pub mod SmallParts

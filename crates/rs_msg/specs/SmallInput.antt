@@ -1,4 +1,4 @@
--- The input of the tests: two regions side by side, the first of which is merged into the second.
+-- The input of the worked cases: two regions side by side, the first of which is merged into the second.
 use Rattle.std.specs.Prelude.{ℕ, [], ◌∷◌, Some, None}
 use Rattle.rs_key.specs.Ranges.{Bounds}
 use Rattle.rs_entry.specs.declared.entry.Body.{Body}

@@ -15,7 +15,7 @@ pub struct Closed<'p> {
     target: u64,
     commit: u64,
     state: RegionState,
-    map: Map,
+    map: Map<'p>,
     ghost below: { address < count_of plan.now },
     ghost held: { IsHeld plan.now address commit state map },
     ghost merging: { state.mode ≡ mode.Merging target commit },
@@ -29,7 +29,7 @@ impl<'p> Closed<'p> {
         target: u64,
         commit: u64,
         state: RegionState,
-        map: Map,
+        map: Map<'p>,
     ) -> Closed<'p>
         requires below { address < count_of plan.now }
         requires held { IsHeld plan.now address commit state map }
@@ -39,7 +39,7 @@ impl<'p> Closed<'p> {
         ensures target { result.target ≡ target }
         ensures commit { result.commit ≡ commit }
         ensures state { result.state ≡ state }
-        ensures map { result.map ≡ map }
+        ensures map { result.map ≡ map.entry }
     {
         Closed {
             plan,
@@ -77,14 +77,14 @@ impl<'p> Closed<'p> {
         &self.state
     }
 
-    pub fn map(&self) -> &Map
+    pub fn map(&self) -> &Map<'p>
         ensures { result.now ≡ self.now.map }
     {
         &self.map
     }
 
     /// The state and the map, moved out.
-    pub fn take(self) -> (RegionState, Map)
+    pub fn take(self) -> (RegionState, Map<'p>)
         ensures state { result.0 ≡ self.entry.state }
         ensures map { result.1 ≡ self.entry.map }
         ensures held { IsHeld self.entry.plan.now self.entry.address self.entry.commit result.0 result.1 }

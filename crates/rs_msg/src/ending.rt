@@ -16,7 +16,7 @@ pub struct Ending<'p> {
     address: u32,
     state: RegionState,
     replies: Rows<ReplyLine>,
-    map: Option<Map>,
+    map: Option<Map<'p>>,
     ghost below: { address < count_of plan.now },
     ghost ending: { IsEnding plan.now address state replies map },
 }
@@ -28,7 +28,7 @@ impl<'p> Ending<'p> {
         address: u32,
         state: RegionState,
         replies: Rows<ReplyLine>,
-        map: Option<Map>,
+        map: Option<Map<'p>>,
     ) -> Ending<'p>
         requires below { address < count_of plan.now }
         requires ending { IsEnding plan.now address state replies map }
@@ -36,7 +36,7 @@ impl<'p> Ending<'p> {
         ensures address { result.address ≡ address }
         ensures state { result.state ≡ state }
         ensures replies { result.replies ≡ replies }
-        ensures map { result.map ≡ map }
+        ensures map { result.map ≡ map.entry }
     {
         Ending {
             plan,
@@ -66,14 +66,14 @@ impl<'p> Ending<'p> {
         &self.replies
     }
 
-    pub fn map(&self) -> Option<&Map>
+    pub fn map(&self) -> Option<&Map<'p>>
         ensures { option_copied result ≡ self.now.map }
     {
         self.map.as_ref()
     }
 
     /// The state, the replies and the map, moved out.
-    pub fn take(self) -> (RegionState, Rows<ReplyLine>, Option<Map>)
+    pub fn take(self) -> (RegionState, Rows<ReplyLine>, Option<Map<'p>>)
         ensures state { result.0 ≡ self.entry.state }
         ensures replies { result.1 ≡ self.entry.replies }
         ensures map { result.2 ≡ self.entry.map }

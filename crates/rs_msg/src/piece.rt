@@ -12,20 +12,20 @@ pub struct Piece<'p> {
     plan: &'p Plan,
     address: u32,
     state: RegionState,
-    map: Map,
+    map: Map<'p>,
     ghost below: { address < count_of plan.now },
     ghost held: { IsHeld plan.now address 5 state map },
 }
 
 impl<'p> Piece<'p> {
     /// It takes no memory.
-    pub fn new(plan: &'p Plan, address: u32, state: RegionState, map: Map) -> Piece<'p>
+    pub fn new(plan: &'p Plan, address: u32, state: RegionState, map: Map<'p>) -> Piece<'p>
         requires below { address < count_of plan.now }
         requires held { IsHeld plan.now address 5 state map }
         ensures plan { result.plan ≡ plan.entry }
         ensures address { result.address ≡ address }
         ensures state { result.state ≡ state }
-        ensures map { result.map ≡ map }
+        ensures map { result.map ≡ map.entry }
     {
         Piece {
             plan,
@@ -47,14 +47,14 @@ impl<'p> Piece<'p> {
         &self.state
     }
 
-    pub fn map(&self) -> &Map
+    pub fn map(&self) -> &Map<'p>
         ensures { result.now ≡ self.now.map }
     {
         &self.map
     }
 
     /// The state and the map, moved out.
-    pub fn take(self) -> (RegionState, Map)
+    pub fn take(self) -> (RegionState, Map<'p>)
         ensures state { result.0 ≡ self.entry.state }
         ensures map { result.1 ≡ self.entry.map }
         ensures held { IsHeld self.entry.plan.now self.entry.address 5 result.0 result.1 }

@@ -1,35 +1,12 @@
-ghost use Rattle.std.specs.Prelude.{◌≡◌, IfOk};
-ghost use Rattle.rs_peer.specs.OneRegion.{one_region};
-
 use super::*;
 use rs_check::{Plan, check};
-use rs_entry::{Boot, Input, Store};
-use rs_key::{Range, Rows};
+use rs_gen::make;
 use rs_msg::{ApplyMsg, Outbox, PeerMsg};
 use std::alloc::Global;
 use std::test::Fail;
 
-fn one_region(alloc: Global) -> Result<Input, Fail>
-    ensures { IfOk result (λ input. input ≡ one_region) }
-{
-    let mut regions = Rows::new(alloc);
-    regions.push(Boot {
-        region: 1,
-        range: Range::new(None, None)?,
-        peers: Rows::new(alloc),
-    })?;
-    let mut stores = Rows::new(alloc);
-    stores.push(Store {
-        id: 1,
-        regions,
-        logs: Rows::new(alloc),
-    })?;
-    Ok(Input { version: 1, stores })
-}
-
-#[tactic(auto, using(crate::proofs::OneRegionLaws::one_region_well_formed))]
 fn plan(alloc: Global) -> Result<Plan, Fail> {
-    match check(one_region(alloc)?) {
+    match check(make(alloc, 0)?) {
         Ok(plan) => Ok(plan),
         Err(_) => Err(Fail::new("the input has no plan")),
     }
@@ -54,7 +31,7 @@ fn text(alloc: Global, out: &Outbox<'_>) -> Result<String, Fail> {
 #[test]
 fn a_tombstone_still_passes_on_what_it_is_told(rt: HostRuntime) -> Result<(), Fail> {
     let plan = &plan(rt.alloc())?;
-    assert!(rt; plan.count() == 1);
+    assert!(rt; plan.count() == 4);
     let mut machine = PeerFsm::new(plan, 0);
     let mut out = Outbox::new(rt.alloc());
     assert_eq!(rt; machine.applied(), 5);

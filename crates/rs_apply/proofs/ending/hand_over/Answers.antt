@@ -1,10 +1,10 @@
 use Rattle.std.proofs.Common.{rules, ◌≡◌, ◌∷◌, [], ◌++◌, ◌∙◌, ap, sym, Some}
+use Rattle.std.proofs.lemmas.Result.{on_ok_weaker}
 use Rattle.rs_entry.specs.declared.outcome.Mode.TheVariants as modes
 use Rattle.rs_msg.specs.declared.messages.ApplyMsg.TheVariants as apply
 use Rattle.rs_apply.specs.Findings.{find_on}
 use Rattle.rs_apply.specs.Machines.{AddsHandover}
 use Rattle.rs_apply.proofs.Ends.{merging_at_stop}
-use Rattle.rs_apply.proofs.Sending.{if_ok}
 use Rattle.rs_apply.proofs.ending.hand_over.Goals as goal
 
 pub unreachable-requires : goal.unreachable-requires
@@ -20,5 +20,6 @@ new-closed-requires-clause-merging c =
 pub returns : goal.returns
 returns c =
     let found : find_on c.args.plan.now c.args.address c.args.target ≡ Some c.in-Some.place = search rules in
-    if_ok c.push.result (c.push.new.self ≡ c.args.applies.now ++ (c.in-Some.place, apply.SourceDone c.in_ok-closed.closed) ∷ []) (AddsHandover c.args.plan.now c.args.address c.args.target c.args.applies.now c.push.new.self) c.push.ensures.ok
+    on_ok_weaker c.push.result
     (λ e. record { place = c.in-Some.place; found = found; message = apply.SourceDone c.in_ok-closed.closed; is = e; tells = (search rules, search rules, search rules, search rules) })
+    c.push.ensures.ok
