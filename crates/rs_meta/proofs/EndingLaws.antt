@@ -19,7 +19,7 @@ use Rattle.rs_value.specs.Parts.{Part, part_of}
 use Rattle.rs_value.specs.Scripts.{IsPart}
 use Rattle.rs_value.specs.Whole.{Answers, replies_of}
 use Rattle.rs_value.proofs.Parts.{one_part}
-use Rattle.rs_map.specs.Maps.{Entries, items_at}
+use Rattle.rs_map.specs.Maps.{Writes, items_at}
 use Rattle.rs_check.specs.Laws.{check}
 use Rattle.rs_check.specs.Plans.{ends_of, own_in, own_of, stop_of}
 use Rattle.rs_check.specs.Scripts.{script_of}
@@ -77,7 +77,7 @@ module _ (input : Input) (well : WellFormed input) (lawful : check input ≡ Non
   unmerged_part : is_unmerged h.r.state.mode ≡ true → IsPart (script_of input) id h.r.applied (part_of h.end.g h.r)
   unmerged_part unmerged = h.end.invariant.sound.parts id h.r h.made unmerged
 
-  module _ (s : RegionState) (lines : List ReplyLine) (kept : Option Entries) (e : IsEnding input a s lines kept) where
+  module _ (s : RegionState) (lines : List ReplyLine) (kept : Option Writes) (e : IsEnding input a s lines kept) where
     last : (v : Part) × (part_at input a (stop_of input a) ≡ Some v) × (v.state ≡ s)
     last = go (part_at input a (stop_of input a)) refl e.state
       where
@@ -139,7 +139,7 @@ module _ (input : Input) (well : WellFormed input) (lawful : check input ≡ Non
         there : is_some kept ≡ leaves_map h.r.state.mode
         there = e.there ∙ ap leaves_map (ends input a h)
 
-        by_map : (b : Bool) → leaves_map h.r.state.mode ≡ b → (o : Option Entries) → kept ≡ o → items_at (unwrap_or o []) key ≡ (if b then items_in h.r.state.range h.end.g.writes key else [])
+        by_map : (b : Bool) → leaves_map h.r.state.mode ≡ b → (o : Option Writes) → kept ≡ o → items_at (unwrap_or o []) key ≡ (if b then items_in h.r.state.range h.end.g.writes key else [])
         by_map true b None none = absurd (cc (sym (ap is_some none) ∙ (there ∙ b)))
         by_map false b None none = refl
         by_map false b (Some m) some = absurd (cc (sym (ap is_some some) ∙ (there ∙ b)))

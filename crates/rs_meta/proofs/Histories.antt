@@ -1,76 +1,34 @@
--- Histories that rise by key, each with an item, are those of the writes that have their items.
-use Rattle.std.proofs.Common.{◌≡◌, ◌∙◌, sym, refl, ap, ℕ, ◌<◌, Bool, true, false, cond, List, [], ◌∷◌, map, length, arith, Less, Equal, Greater}
-use Rattle.std.specs.Prelude.{◌||◌}
-use Rattle.std.specs.List.{AllByRecursion, filter}
-use Rattle.std.specs.Ordering.{is_lt, ordering_reverse}
-use Rattle.std.specs.declared.cmp.Ordering.{Ordering}
-use Rattle.rs_key.specs.Keys.{is_below, same_bytes}
+-- Writes that have the same items have the same histories.
+use Rattle.std.proofs.Common.{◌≡◌, ◌∙◌, sym, refl, ap, ℕ, List, [], ◌∷◌, ◌++◌, map}
+use Rattle.std.specs.List.{filter, flat_map}
 use Rattle.rs_entry.specs.declared.outcome.Item.{Item}
 use Rattle.rs_entry.specs.declared.outcome.KeyHistory.{KeyHistory}
 use Rattle.rs_order.specs.Stores.{Wrote}
 use Rattle.rs_value.specs.Items.{history_of, item_of, of_key}
-use Rattle.rs_map.specs.Histories.{KeysRise, items_in_histories}
+use Rattle.rs_value.proofs.Items.{history_append}
+use Rattle.rs_msg.specs.declared.ending.Ending.{Ending}
 use Rattle.rs_outcome.specs.Histories.{histories_of, keys_of}
-use Rattle.rs_outcome.proofs.HistoryLaws.{Rise, has, has_keys, history_at, order, rise_keys, same_as, same_itself, some_in, turned, unique}
-
-less : (o : Ordering) → is_lt o ≡ true → o ≡ Less
-less Less e = refl
-less Equal e = absurd cc
-less Greater e = absurd cc
-
-abbrev keys : List KeyHistory → List (List ℕ)
-keys hs = map (λ (h : KeyHistory). h.key) hs
-
--- ---- the keys are those that are written
-
-keys_rise : (hs : List KeyHistory) → KeysRise hs → Rise (keys hs)
-keys_rise [] h = tt
-keys_rise (x ∷ []) h = (tt, tt)
-keys_rise (x ∷ y ∷ hs) h = (less (order x.key y.key) h.0.0, keys_rise (y ∷ hs) h.1)
-
-some_items : (items : List Item) → 0 < length items → some_in items ≡ true
-some_items [] h = absurd (omega (arith, h))
-some_items (x ∷ xs) h = refl
-
-has_items : (hs : List KeyHistory) → AllByRecursion (λ h. 0 < length h.items) hs → (k : List ℕ) → has k (keys hs) ≡ some_in (items_in_histories hs k)
-has_items [] some k = refl
-has_items (h ∷ hs) some k = go (same_bytes k h.key) (has_items hs some.1 k)
-  where
-    go : (b : Bool) → has k (keys hs) ≡ some_in (items_in_histories hs k) → (b || has k (keys hs)) ≡ some_in (cond b h.items (items_in_histories hs k))
-    go true rest = sym (some_items h.items some.0)
-    go false rest = rest
+use Rattle.rs_outcome.proofs.HistoryLaws.{has_keys, history_at, maps, rise_keys, some_in, unique}
+use Rattle.rs_meta.specs.Readings.{items_of_all, writes_left}
 
 some_mapped : (ws : List Wrote) → some_in (map item_of ws) ≡ some_in ws
 some_mapped [] = refl
 some_mapped (w ∷ ws) = refl
 
--- ---- each history is that of its key
-
-not_first : (a b : List ℕ) → is_below a b ≡ true → same_bytes b a ≡ false
-not_first a b h = same_as b a Greater (turned b a ∙ ap ordering_reverse (less (order a b) h))
-
-items_behind : (first : KeyHistory) (hs xs : List KeyHistory) → AllByRecursion (λ later. is_below first.key later.key ≡ true) xs → AllByRecursion (λ h. items_in_histories hs h.key ≡ h.items) xs
-    → AllByRecursion (λ h. items_in_histories (first ∷ hs) h.key ≡ h.items) xs
-items_behind first hs [] above each = tt
-items_behind first hs (x ∷ xs) above each =
-    (ap (λ b. cond b first.items (items_in_histories hs x.key)) (not_first first.key x.key above.0) ∙ each.0, items_behind first hs xs above.1 each.1)
-
-own_items : (hs : List KeyHistory) → KeysRise hs → AllByRecursion (λ h. items_in_histories hs h.key ≡ h.items) hs
-own_items [] rise = tt
-own_items (h ∷ hs) rise = (ap (λ b. cond b h.items (items_in_histories hs h.key)) (same_itself h.key), items_behind h hs hs rise.0 (own_items hs rise.1))
-
-module _ (ws : List Wrote) (hs : List KeyHistory) (rise : KeysRise hs) (some : AllByRecursion (λ h. 0 < length h.items) hs) (items : (key : List ℕ) → items_in_histories hs key ≡ history_of ws key) where
-  same_keys : keys hs ≡ keys_of ws
+module _ (xs ys : List Wrote) (same : (key : List ℕ) → history_of ys key ≡ history_of xs key) where
+  same_keys : keys_of ys ≡ keys_of xs
   same_keys =
-      unique (keys hs) (keys_of ws) (keys_rise hs rise) (rise_keys ws)
-      (λ k. has_items hs some k ∙ (ap some_in (items k) ∙ (some_mapped (filter (of_key k) ws) ∙ sym (has_keys k ws))))
+      unique (keys_of ys) (keys_of xs) (rise_keys ys) (rise_keys xs)
+      (λ k. has_keys k ys ∙ (sym (some_mapped (filter (of_key k) ys)) ∙ (ap some_in (same k) ∙ (some_mapped (filter (of_key k) xs) ∙ sym (has_keys k xs)))))
 
-  histories_by_key : (xs : List KeyHistory) → AllByRecursion (λ h. items_in_histories hs h.key ≡ h.items) xs → xs ≡ map (history_at ws) (keys xs)
-  histories_by_key [] each = refl
-  histories_by_key (x ∷ xs) each =
-      let one : x.items ≡ history_of ws x.key = sym each.0 ∙ items x.key in
-      ap (λ (is : List Item). let h : KeyHistory = record { key = x.key; items = is } in h ∷ xs) one ∙ ap (λ zs. history_at ws x.key ∷ zs) (histories_by_key xs each.1)
+  one_history : (k : List ℕ) → history_at ys k ≡ history_at xs k
+  one_history k = ap (λ (items : List Item). let h : KeyHistory = record { key = k; items = items } in h) (same k)
 
-  pub histories_are : hs ≡ histories_of ws
+  pub histories_by_items : histories_of ys ≡ histories_of xs
   unfolding histories_of
-  histories_are = histories_by_key hs (own_items hs rise) ∙ ap (map (history_at ws)) same_keys
+  histories_by_items = ap (map (history_at ys)) same_keys ∙ maps (history_at ys) (history_at xs) one_history (keys_of xs)
+
+-- the items of all writes are those of each ending's, one after another
+pub items_of_writes : (es : List Ending) (key : List ℕ) → history_of (flat_map writes_left es) key ≡ items_of_all es key
+items_of_writes [] key = refl
+items_of_writes (e ∷ es) key = history_append (writes_left e) (flat_map writes_left es) key ∙ ap (λ is. history_of (writes_left e) key ++ is) (items_of_writes es key)

@@ -1,5 +1,6 @@
 pub mod Alongside
 pub mod EndingLaws
+pub mod FinalStates
 pub mod HeldLaws
 pub mod Histories
 pub mod LeftItems

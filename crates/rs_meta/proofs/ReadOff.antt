@@ -1,5 +1,5 @@
 -- The outcome of a store of a lawful input is read off the endings of its addresses.
-use Rattle.std.proofs.Common.{◌≡◌, ◌∙◌, sym, refl, ap, ℕ, List, [], map, take, Option, Some, None, ◌⊎◌}
+use Rattle.std.proofs.Common.{◌≡◌, ◌∙◌, sym, refl, ap, ℕ, List, [], map, Option, Some, None}
 use Rattle.std.specs.Prelude.{slice_get}
 use Rattle.std.specs.Option.{option_map}
 use Rattle.std.specs.List.{AllByRecursion, flat_map}
@@ -20,10 +20,10 @@ use Rattle.rs_outcome.specs.Outcomes.{by_region, lines_in, outcome_by, outcome_w
 use Rattle.rs_outcome.proofs.Ascending.{ids_ascend}
 use Rattle.rs_outcome.proofs.RepliesById.{replies_by_id}
 use Rattle.rs_outcome.proofs.SameOutcomes.{outcome_made}
-use Rattle.rs_meta.specs.Readings.{AreEndings, IsReadOff, items_left, items_of_all, line_of}
+use Rattle.rs_meta.specs.Readings.{AreEndings, IsReadOff, items_of_all, line_of, writes_left}
 use Rattle.rs_meta.proofs.Alongside.{Along, along, items_along, lines_along, replies_along}
-use Rattle.rs_meta.proofs.Histories.{histories_are}
-use Rattle.rs_meta.proofs.LeftItems.{all_shown, apart_from_front}
+use Rattle.rs_meta.proofs.Histories.{histories_by_items, items_of_writes}
+use Rattle.rs_meta.proofs.LeftItems.{all_shown}
 use Rattle.rs_meta.proofs.StoreRows.{end_of}
 
 module _ (input : Input) (well : WellFormed input) (lawful : check input ≡ None) (place : ℕ) (s : Store) (there : slice_get input.stores place ≡ Some s)
@@ -57,16 +57,11 @@ module _ (input : Input) (well : WellFormed input) (lawful : check input ≡ Non
   pub outcome_read_off : (o : StoreOutcome) → o.id ≡ s.id → IsReadOff input es o → o ≡ store_outcome s
   unfolding store_outcome
   outcome_read_off o id read =
-      let histories : o.histories ≡ histories_of writes = histories_are writes o.histories read.rising read.some (λ key. read.items key ∙ items key) in
+      let histories : o.histories ≡ histories_of writes = read.histories ∙ histories_by_items writes (flat_map writes_left es) (λ key. items_of_writes es key ∙ items key) in
       outcome_made o.id o.regions (lines_in s g.region (ids_of s)) o.replies (map reply_line g.replies) o.pairs o.histories (histories_of writes)
       (read.regions ∙ sym lines) (read.replies ∙ sym replies) read.pairs histories
       ∙ (ap (λ n. outcome_with n (lines_in s g.region (ids_of s)) (map reply_line g.replies) (histories_of writes)) id
       ∙ sym (ap (outcome_by s) (end_of input well lawful place s there).ends))
-
-  -- an ending and those before it leave no items of one key
-  pub apart_from_before : (k : ℕ) (e : Ending) → slice_get es k ≡ Some e → (key : List ℕ) → (items_of_all (take k es) key ≡ []) ⊎ (items_left e key ≡ [])
-  apart_from_before k e at key =
-      apart_from_front (script_of input) s g inv key input es beside k e at
 
 -- the same by the store's place
 pub outcome_at : (input : Input) → WellFormed input → check input ≡ None → (place : ℕ) (es : List Ending) → AreEndings input place es → (o : StoreOutcome)

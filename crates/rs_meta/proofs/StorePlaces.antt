@@ -34,7 +34,7 @@ all_both P (x ∷ xs) ys h k = (h.0, all_both P xs ys h.1 k)
 
 -- ---- each row has the id of its store
 
-rows_stored : (store : Store) (f : ByRegion) (ids : List ℕ) → AllByRecursion (λ y. y.store ≡ store.id) (rows_in store f ids)
+pub rows_stored : (store : Store) (f : ByRegion) (ids : List ℕ) → AllByRecursion (λ y. y.store ≡ store.id) (rows_in store f ids)
 rows_stored store f [] = tt
 rows_stored store f (id ∷ ids) = go (f id) (rows_stored store f ids)
   where

@@ -1,17 +1,24 @@
-ghost use Rattle.std.specs.Prelude.{◌≡◌, ◌<◌, ◌↔◌, ℕ, None, Some, false, true, length, slice_get, IfOk, IsTrue, OnErr, OnOk};
+ghost use Rattle.std.specs.Prelude.{◌≡◌, ◌<◌, ◌↔◌, ℕ, None, Some, false, true, length, slice_get, IfOk, IsTrue, MatchOption, OnErr, OnOk};
 ghost use Rattle.std.specs.Option.{option_map};
+ghost use Rattle.rs_check.specs.Tables.{owner};
+ghost use Rattle.rs_table.specs.Covers.{IsOwner, NoneOwns};
+ghost use Rattle.rs_table.specs.Cuts.{AllTold, AreKnown, IsCut, IsGreatest, IsIn};
+ghost use Rattle.rs_table.specs.Moves.{nothing_covered};
+ghost use Rattle.rs_table.specs.Rows.{IsTable};
+ghost use Rattle.rs_table.specs.Tellings.{nothing};
+ghost use Rattle.rs_table.specs.Views.{cut_of, place_of, rows_of, told_of};
 ghost use Rattle.rs_msg.specs.Names.{name_of_store};
 ghost use Rattle.rs_outcome.specs.Outcomes.{store_outcome};
-ghost use Rattle.rs_meta.specs.Held.{AreAllHeld};
-ghost use Rattle.rs_meta.specs.Machines.{held_after, held_by};
+ghost use Rattle.rs_meta.specs.Machines.{IsComplete, held_after, held_by, is_news, told_after};
 
 use crate::endings::Endings;
 use crate::reading::read_off;
-use rs_check::Plan;
+use rs_check::{Plan, RegionTable};
 use rs_entry::{Input, StoreOutcome};
-use rs_key::NoMemory;
+use rs_key::{Key, NoMemory};
 use rs_mailcore::{Fsm, Named};
 use rs_msg::StoreMsg;
+use rs_table::StoreTable;
 use std::alloc::Global;
 
 /// The control machine of a store.
@@ -19,28 +26,32 @@ use std::alloc::Global;
 pub struct StoreFsm<'p> {
     plan: &'p Plan,
     place: u32,
-    /// Whether a call has met want of memory.
-    spent: bool,
     endings: Endings<'p>,
-    ghost of_plan: { endings.plan ≡ plan },
-    ghost of_place: { endings.place ≡ place },
+    table: StoreTable<'p>,
+    ghost endings_plan: { endings.plan ≡ plan },
+    ghost endings_place: { endings.place ≡ place },
+    ghost table_plan: { table.growing.plan ≡ plan },
+    ghost table_place: { place_of table ≡ place },
 }
 
 impl<'p> StoreFsm<'p> {
-    /// The machine of the store at the place, counted from 0. It holds no ending yet.
+    /// The machine of the store at the place, counted from 0. It was told nothing, and holds no ending yet.
     pub fn new(alloc: Global, plan: &'p Plan, place: u32) -> Result<StoreFsm<'p>, NoMemory>
         requires { place < length plan.now.stores }
         ensures plan { IfOk result (λ m. m.plan ≡ plan.entry) }
         ensures place { IfOk result (λ m. m.place ≡ place) }
-        ensures fresh { IfOk result (λ m. m.spent ≡ false) }
+        ensures fresh { IfOk result (λ m. m.table.spent ≡ false) }
         ensures none { IfOk result (λ m. (a : ℕ) → held_by m.endings a ≡ None) }
+        ensures told { IfOk result (λ m. told_of m.table ≡ nothing) }
+        ensures cut { IfOk result (λ m. cut_of m.table ≡ nothing_covered) }
     {
         let endings = Endings::new(alloc, plan, place)?;
+        let table = StoreTable::new(alloc, plan, place)?;
         Ok(StoreFsm {
             plan,
             place,
-            spent: false,
             endings,
+            table,
         })
     }
 
@@ -52,43 +63,73 @@ impl<'p> StoreFsm<'p> {
         self.place
     }
 
-    /// Tells the machine a message of its plan. Of an address of its store it holds the first ending that comes.
+    /// Tells the machine a message of its plan. Of an address of its store it holds the first ending that comes, and it takes
+    /// to know each reshaping of its store that the plan has: in any order, and as often as may be.
     ///
-    /// After NoMemory every later call answers NoMemory.
+    /// After NoMemory the table is that of a cut of what was told, this message's reshaping too, which contains the cut
+    /// before; every later call answers NoMemory and changes nothing.
     pub fn handle(&mut self, msg: StoreMsg<'p>) -> Result<(), NoMemory>
         requires plan { name_of_store msg ≡ self.old.plan.now }
         ensures plan { self.new.plan ≡ self.old.plan }
         ensures place { self.new.place ≡ self.old.place }
-        ensures spent { OnErr result (self.new.spent ≡ true) }
-        ensures fresh { OnOk result ((self.old.spent ≡ false) × (self.new.spent ≡ false)) }
+        ensures spent { OnErr result (self.new.table.spent ≡ true) }
+        ensures fresh { OnOk result ((self.old.table.spent ≡ false) × (self.new.table.spent ≡ false)) }
+        ensures later { self.old.table.spent ≡ true → self.new ≡ self.old }
         ensures held { OnOk result ((a : ℕ) → held_by self.new.endings a ≡ held_after self.old.plan.now self.old.place msg.entry (held_by self.old.endings) a) }
         ensures kept { OnErr result (self.new.endings ≡ self.old.endings) }
+        ensures told { OnOk result ((a n : ℕ) → told_of self.new.table a n ≡ told_after self.old.plan.now self.old.place msg.entry (told_of self.old.table) a n) }
+        ensures only { (a n : ℕ) → told_of self.new.table a n ≡ true → told_after self.old.plan.now self.old.place msg.entry (told_of self.old.table) a n ≡ true }
+        ensures more { IsIn (cut_of self.old.table) (cut_of self.new.table) }
+        ensures same { is_news self.old.plan.now self.old.place msg.entry (told_of self.old.table) ≡ false → self.new.table ≡ self.old.table }
     {
-        if self.spent {
+        if self.table.is_spent() {
             return Err(NoMemory);
         }
         match msg {
-            StoreMsg::Reshaped { .. } => {}
-            StoreMsg::Ended { ending } => self.endings.put(Box::into_inner(ending)),
+            StoreMsg::Reshaped { address, nth, .. } => self.table.tell(address, nth),
+            StoreMsg::Ended { ending } => {
+                self.endings.put(Box::into_inner(ending));
+                Ok(())
+            }
         }
-        Ok(())
     }
 
-    /// Whether each address of the store has its ending. It takes no memory.
-    pub fn complete(&self) -> bool
-        ensures { IsTrue result ↔ AreAllHeld self.now.plan.now self.now.place (held_by self.now.endings) }
+    /// The states of the regions that the cut has, by id. It takes no memory.
+    pub fn table(&self) -> &RegionTable
+        ensures value { result.now ≡ rows_of self.now.table }
+        ensures table { IsTable self.now.plan.now self.now.place (cut_of self.now.table) (rows_of self.now.table) }
+        ensures cut { IsCut self.now.plan.now self.now.place (cut_of self.now.table) }
+        ensures known { AreKnown self.now.plan.now self.now.place (told_of self.now.table) }
+        ensures told { AllTold (told_of self.now.table) (cut_of self.now.table) }
+        ensures greatest { self.now.table.spent ≡ false → IsGreatest self.now.plan.now self.now.place (told_of self.now.table) (cut_of self.now.table) }
     {
-        self.endings.complete()
+        self.table.table()
     }
 
-    /// The store's outcome, made of the endings.
+    /// The live region of the table that holds the key; None exactly where none does. It takes no memory.
+    pub fn find(&self, key: &Key) -> Option<u64>
+        ensures value { result ≡ owner (rows_of self.now.table) key.now }
+        ensures owner { MatchOption result (NoneOwns (rows_of self.now.table) key.now) (IsOwner (rows_of self.now.table) key.now) }
+        ensures alone { (id : ℕ) → IsOwner (rows_of self.now.table) key.now id → result ≡ Some id }
+    {
+        self.table.find(key)
+    }
+
+    /// Whether each address of the store has its ending, and the table each of its reshapings. It takes no memory.
+    pub fn complete(&self) -> bool
+        ensures { IsTrue result ↔ IsComplete self.now.plan.now self.now.place (held_by self.now.endings) (cut_of self.now.table) }
+    {
+        self.endings.complete() && self.table.is_full()
+    }
+
+    /// The store's outcome: its region lines are made of the table, its replies, pairs and histories of the endings.
     pub fn into_outcome(self) -> Result<StoreOutcome, NoMemory>
-        requires complete { AreAllHeld self.plan.now self.place (held_by self.endings) }
+        requires complete { IsComplete self.plan.now self.place (held_by self.endings) (cut_of self.table) }
         ensures { IfOk result (λ outcome. option_map store_outcome (slice_get self.entry.plan.now.stores self.entry.place) ≡ Some outcome) }
     {
         let alloc = self.plan.input().stores.allocator();
         let endings = self.endings.into_held(alloc)?;
-        read_off(alloc, self.plan, self.place, endings)
+        read_off(alloc, self.plan, &self.table, endings)
     }
 }
 

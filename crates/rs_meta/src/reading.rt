@@ -1,111 +1,136 @@
-//! A store's outcome, read off the endings of its addresses.
+//! A store's outcome, read off the table of all its reshapings and the endings of its addresses.
 
-ghost use Rattle.std.specs.Prelude.{◌≡◌, ◌<◌, ◌++◌, [], map, length, slice_get, unwrap_or, IfOk, OnOk, Some};
+ghost use Rattle.std.specs.Prelude.{◌≡◌, ◌<◌, ◌++◌, [], All, map, length, slice_get, unwrap_or, IfOk, OnOk, Some};
 ghost use Rattle.std.specs.List.{flat_map};
 ghost use Rattle.std.specs.Option.{option_map};
-ghost use Rattle.rs_check.specs.Values.{count_of};
-ghost use Rattle.rs_map.specs.Maps.{HasItems, KeysApart, items_at, items_of_both};
 ghost use Rattle.rs_outcome.specs.Outcomes.{store_outcome};
-ghost use Rattle.rs_meta.specs.Readings.{line_from, line_of, items_of_all, AreEndings};
+ghost use Rattle.rs_check.specs.Plans.{ends_of};
+ghost use Rattle.rs_table.specs.Cuts.{IsFull};
+ghost use Rattle.rs_table.specs.Rows.{with_mode};
+ghost use Rattle.rs_table.specs.Views.{cut_of, input_of, place_of};
+ghost use Rattle.rs_meta.specs.Readings.{AreEndings, IsEndingOn, line_of, writes_left};
 
 use crate::counting::id_of;
 use rs_check::Plan;
 use rs_entry::{RegionLine, ReplyLine, StoreOutcome};
-use rs_key::{NoMemory, Rows};
+use rs_key::{NoMemory, Rows, TryClone};
 use rs_map::Map;
 use rs_msg::Ending;
 use rs_outcome::pairs_of;
 use rs_region::RegionState;
+use rs_table::StoreTable;
+use rs_writes::Writes;
 use std::alloc::Global;
 
-/// What endings say: their lines, all replies and the items of their maps.
+/// What endings say beside their lines: all replies and the writes of their maps.
 #[derive(Drop)]
-struct Reading {
-    lines: Rows<RegionLine>,
+struct Reading<'p> {
     replies: Rows<ReplyLine>,
-    map: Map,
+    writes: Writes<'p>,
 }
 
-/// The outcome of the store at the place.
+/// The outcome of the store whose table has all its reshapings.
 pub fn read_off<'p>(
     alloc: Global,
     plan: &'p Plan,
-    place: u32,
+    table: &StoreTable<'p>,
     endings: Vec<Ending<'p>>,
 ) -> Result<StoreOutcome, NoMemory>
-    requires place { place < length plan.now.stores }
-    requires endings { AreEndings plan.now place endings.items }
-    ensures { IfOk result (λ outcome. option_map store_outcome (slice_get plan.now.stores place) ≡ Some outcome) }
+    requires plan { table.now.growing.plan ≡ plan }
+    requires place { place_of table.now < length plan.now.stores }
+    requires full { IsFull plan.now (place_of table.now) (cut_of table.now) }
+    requires endings { AreEndings plan.now (place_of table.now) endings.items }
+    ensures { IfOk result (λ outcome. option_map store_outcome (slice_get plan.now.stores (place_of table.now)) ≡ Some outcome) }
 {
     let _input = plan.input();
-    let id = id_of(plan, place);
-    let reading = read_all(alloc, plan, place, endings)?;
-    let histories = reading.map.into_histories(alloc)?;
+    let id = id_of(plan, table.place());
+    let regions = lines_of(alloc, plan, table, endings.as_slice())?;
+    let reading = read_all(alloc, endings)?;
+    let histories = reading.writes.into_histories(alloc)?;
     Ok(StoreOutcome {
         id,
-        regions: reading.lines,
+        regions,
         replies: reading.replies,
         pairs: pairs_of(alloc, &histories)?,
         histories,
     })
 }
 
-fn read_all<'p>(
-    alloc: Global,
-    plan: &'p Plan,
-    place: u32,
-    endings: Vec<Ending<'p>>,
-) -> Result<Reading, NoMemory>
-    requires place { place < length plan.now.stores }
-    requires endings { AreEndings plan.now place endings.items }
-    ensures lines { IfOk result (λ reading. reading.lines ≡ map (line_of plan.now) endings.entry.items) }
+fn read_all<'p>(alloc: Global, endings: Vec<Ending<'p>>) -> Result<Reading<'p>, NoMemory>
     ensures replies { IfOk result (λ reading. reading.replies ≡ flat_map (λ e. e.replies) endings.entry.items) }
-    ensures items { IfOk result (λ reading. HasItems reading.map (items_of_all endings.entry.items)) }
+    ensures writes { IfOk result (λ reading. reading.writes ≡ flat_map writes_left endings.entry.items) }
 {
-    let _input = plan.input();
-    let mut lines = Rows::with_room(alloc, endings.len());
     let mut replies = Rows::new(alloc);
-    let mut map = Map::new(alloc);
+    let mut writes = Writes::new(alloc);
     for ending in endings {
-        let address = ending.address();
-        let (state, more, left) = ending.take();
-        lines.push(line_from(plan, address, state))?;
+        let (_, more, left) = ending.take();
         append(&mut replies, more)?;
-        join(&mut map, left)?;
+        take_over(&mut writes, left)?;
     }
-    Ok(Reading {
-        lines,
-        replies,
-        map,
+    Ok(Reading { replies, writes })
+}
+
+/// The lines of the regions that have left the endings.
+fn lines_of(
+    alloc: Global,
+    plan: &Plan,
+    table: &StoreTable<'_>,
+    endings: &[Ending<'_>],
+) -> Result<Rows<RegionLine>, NoMemory>
+    requires plan { table.now.growing.plan.now ≡ plan.now }
+    requires full { IsFull plan.now (place_of table.now) (cut_of table.now) }
+    requires of { All (IsEndingOn plan.now (place_of table.now)) endings.now }
+    ensures { IfOk result (λ lines. lines ≡ map (line_of plan.now) endings.now) }
+{
+    let mut lines = Rows::with_room(alloc, endings.len());
+    for ending in endings {
+        lines.push(line_of(plan, table, ending)?)?;
+    }
+    Ok(lines)
+}
+
+/// The line of the region that has left the ending: epoch, range, mode and peers are those of the table.
+fn line_of(plan: &Plan, table: &StoreTable<'_>, ending: &Ending<'_>) -> Result<RegionLine, NoMemory>
+    requires plan { table.now.growing.plan.now ≡ plan.now }
+    requires full { IsFull plan.now (place_of table.now) (cut_of table.now) }
+    requires of { IsEndingOn plan.now (place_of table.now) ending.now }
+    ensures { IfOk result (λ line. line ≡ line_of plan.now ending.now) }
+{
+    let address = ending.address();
+    plan.laws();
+    let state = final_state(table, ending);
+    let applied = plan.stop(address);
+    Ok(RegionLine {
+        region: state.region,
+        epoch: state.epoch,
+        range: state.range.try_clone()?,
+        mode: state.mode,
+        applied,
+        left: plan.own(address).saturating_sub(applied - 5),
+        peers: state.peers.try_clone()?,
     })
 }
 
-/// The line of a region that has ended in this state.
-fn line_from(plan: &Plan, address: u32, state: RegionState) -> RegionLine
-    requires { address < count_of plan.now }
-    ensures { result ≡ line_from plan.now address state }
+/// What the table says of the region that has left the ending.
+#[tactic(auto, using(crate::proofs::FinalStates::final_is))]
+fn final_state<'a>(table: &'a StoreTable<'_>, ending: &Ending<'_>) -> &'a RegionState
+    requires full { IsFull (input_of table.now) (place_of table.now) (cut_of table.now) }
+    requires of { IsEndingOn (input_of table.now) (place_of table.now) ending.now }
+    ensures { result.now ≡ with_mode (ends_of (input_of table.now) ending.now.address) ending.now.state }
 {
-    plan.laws();
-    let applied = plan.stop(address);
-    RegionLine {
-        region: state.region,
-        epoch: state.epoch,
-        range: state.range,
-        mode: plan.ends(address),
-        applied,
-        left: plan.own(address).saturating_sub(applied - 5),
-        peers: state.peers,
-    }
+    let Some(state) = table.state(ending.address()) else {
+        unreachable!()
+    };
+    state
 }
 
-/// Takes over the items of the other map, if there is one.
-fn join(map: &mut Map, other: Option<Map>) -> Result<(), NoMemory>
-    requires { KeysApart map.old (unwrap_or other []) }
-    ensures { OnOk result (HasItems map.new (items_of_both (items_at map.old) (items_at (unwrap_or other [])))) }
+/// Takes over the writes of the map, if there is one.
+fn take_over<'p>(writes: &mut Writes<'p>, left: Option<Map<'p>>) -> Result<(), NoMemory>
+    ensures { OnOk result (writes.new ≡ writes.old ++ unwrap_or left.entry []) }
 {
-    match other {
+    match left {
         None => Ok(()),
-        Some(other) => map.join(other),
+        Some(map) => writes.append(map.into_writes()?),
     }
 }
 

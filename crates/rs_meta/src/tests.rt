@@ -1,200 +1,117 @@
-ghost use Rattle.std.specs.Prelude.{◌≡◌, ◌∷◌, [], IfOk};
-ghost use Rattle.rs_entry.specs.declared.outcome.Mode.TheVariants as mode;
-ghost use Rattle.rs_entry.specs.declared.outcome.Reply.TheVariants as reply;
-ghost use Rattle.rs_msg.specs.SmallInput.{below_m, boot_region, from_m, log_of, region_with, small_input, small_store};
+ghost use Rattle.std.specs.Prelude.{◌<◌, length};
 
 use super::*;
 use rs_check::{Plan, check};
-use rs_entry::{Body, Boot, Entry, Input, Log, Mode, Reply, ReplyLine, Store, StoreOutcome};
-use rs_key::{Epoch, Key, NoMemory, Range, Rows};
-use rs_map::Map;
-use rs_msg::{Ending, StoreMsg};
-use rs_region::RegionState;
+use rs_entry::Mode;
+use rs_gen::make;
+use rs_key::Key;
+use rs_msg::StoreMsg;
 use std::alloc::Global;
 use std::test::Fail;
 
-/// A list of one.
-fn one<T: Drop>(alloc: Global, value: T) -> Result<Rows<T>, NoMemory>
-    ensures { IfOk result (λ rows. rows ≡ value ∷ []) }
-{
-    let mut rows = Rows::new(alloc);
-    rows.push(value)?;
-    Ok(rows)
-}
-
-fn below_m(alloc: Global) -> Result<Range, Fail>
-    ensures { IfOk result (λ range. range ≡ below_m) }
-{
-    Ok(Range::new(None, Some(Key::new(alloc, &[0x6d])?))?)
-}
-
-fn from_m(alloc: Global) -> Result<Range, Fail>
-    ensures { IfOk result (λ range. range ≡ from_m) }
-{
-    Ok(Range::new(Some(Key::new(alloc, &[0x6d])?), None)?)
-}
-
-fn boot_region(alloc: Global, region: u64, range: Range) -> Boot
-    ensures { result ≡ boot_region region range }
-{
-    Boot {
-        region,
-        range,
-        peers: Rows::new(alloc),
-    }
-}
-
-/// A log with one entry.
-fn log_of(alloc: Global, region: u64, body: Body) -> Result<Log, NoMemory>
-    ensures { IfOk result (λ log. log ≡ log_of region body) }
-{
-    let entry = Entry {
-        index: 6,
-        epoch: Epoch {
-            conf_ver: 1,
-            version: 1,
-        },
-        body,
-    };
-    let entries = one(alloc, entry)?;
-    Ok(Log { region, entries })
-}
-
-fn small_store(alloc: Global) -> Result<Store, Fail>
-    ensures { IfOk result (λ store. store ≡ small_store) }
-{
-    let mut regions = one(alloc, boot_region(alloc, 1, below_m(alloc)?))?;
-    regions.push(boot_region(alloc, 2, from_m(alloc)?))?;
-    let commit = Body::Commit {
-        source: 1,
-        commit: 6,
-        carried: Rows::new(alloc),
-    };
-    let mut logs = one(alloc, log_of(alloc, 1, Body::Prepare { target: 2 })?)?;
-    logs.push(log_of(alloc, 2, commit)?)?;
-    Ok(Store {
-        id: 1,
-        regions,
-        logs,
-    })
-}
-
-/// Two regions side by side, the first of which is merged into the second.
-#[tactic(auto, using(rs_msg::proofs::SmallInputLaws::small_well_formed))]
-fn small_plan(alloc: Global) -> Result<Plan, Fail>
-    ensures { IfOk result (λ plan. plan ≡ small_input) }
-{
-    let stores = one(alloc, small_store(alloc)?)?;
-    match check(Input { version: 1, stores }) {
+/// The plan of the smallest input that is made from a number. On its first store the region 2, of the address 1, is split
+/// off the region 1 and taken over again; the second store, with the addresses 2 and 3, has the same.
+fn plan(alloc: Global) -> Result<Plan, Fail> {
+    match check(make(alloc, 0)?) {
         Ok(plan) => Ok(plan),
         Err(_) => Err(Fail::new("the input has no plan")),
     }
 }
 
-fn region_with(
+/// Tells a new machine the reshapings in this order, each an address and a number.
+fn told<'p>(
     alloc: Global,
-    region: u64,
-    epoch: (u64, u64),
-    range: Range,
-    mode: Mode,
-) -> RegionState
-    ensures { result ≡ region_with region epoch.0 epoch.1 range mode }
+    plan: &'p Plan,
+    place: u32,
+    reshapings: &[(u32, u64)],
+) -> Result<StoreFsm<'p>, Fail>
+    requires { place < length plan.now.stores }
 {
-    RegionState {
-        region,
-        epoch: Epoch {
-            conf_ver: epoch.0,
-            version: epoch.1,
-        },
-        range,
-        peers: Rows::new(alloc),
-        mode,
+    let mut machine = StoreFsm::new(alloc, plan, place)?;
+    for reshaping in reshapings {
+        let (address, nth) = *reshaping;
+        machine.handle(StoreMsg::Reshaped { plan, address, nth })?;
+    }
+    Ok(machine)
+}
+
+fn word_of(mode: Mode) -> &'static str {
+    match mode {
+        Mode::Normal => "normal",
+        Mode::Merging { .. } => "merging",
+        Mode::Merged { .. } => "merged",
+        Mode::Removed => "removed",
     }
 }
 
-fn reply(alloc: Global, region: u64, version: u64) -> Result<Rows<ReplyLine>, NoMemory>
-    ensures { IfOk result (λ replies. replies ≡ record { region = region; index = 6; reply = reply.Done version } ∷ []) }
-{
-    let reply = Reply::Done(version);
-    one(
-        alloc,
-        ReplyLine {
-            region,
-            index: 6,
-            reply,
-        },
-    )
-}
-
-/// What the first region leaves.
-#[tactic(auto, using(rs_msg::proofs::SmallParts::two_addresses, rs_msg::proofs::SmallParts::source_ends))]
-fn source_ends<'p>(alloc: Global, plan: &'p Plan) -> Result<Ending<'p>, Fail>
-    requires { plan.now ≡ small_input }
-    ensures { IfOk result (λ ending. ending.plan ≡ plan.entry) }
-{
-    let mode = Mode::Merging {
-        target: 2,
-        commit: 6,
-    };
-    let state = region_with(alloc, 1, (2, 2), below_m(alloc)?, mode);
-    Ok(Ending::new(plan, 0, state, reply(alloc, 1, 2)?, None))
-}
-
-/// What the second region leaves.
-#[tactic(auto, using(rs_msg::proofs::SmallParts::two_addresses, rs_msg::proofs::SmallParts::target_ends))]
-fn target_ends<'p>(alloc: Global, plan: &'p Plan) -> Result<Ending<'p>, Fail>
-    requires { plan.now ≡ small_input }
-    ensures { IfOk result (λ ending. ending.plan ≡ plan.entry) }
-{
-    let state = region_with(alloc, 2, (1, 3), Range::new(None, None)?, Mode::Normal);
-    Ok(Ending::new(plan, 1, state, reply(alloc, 2, 3)?, Some(Map::new(alloc))))
-}
-
-/// Tells the machine of an ending.
-fn tell<'p>(alloc: Global, machine: &mut StoreFsm<'p>, ending: Ending<'p>) -> Result<(), Fail>
-    requires { ending.plan.now ≡ machine.old.plan.now }
-    ensures { machine.new.plan ≡ machine.old.plan }
-{
-    let ending = Box::new(alloc, ending)?;
-    Ok(machine.handle(StoreMsg::Ended { ending })?)
-}
-
-/// The outcome of a machine that is complete.
-fn outcome_of(machine: StoreFsm<'_>) -> Result<StoreOutcome, Fail> {
-    if !machine.complete() {
-        return Err(Fail::new("an ending is missing"));
+/// The machine's table: of each region its id, its version and its mode.
+fn table_text(alloc: Global, machine: &StoreFsm<'_>) -> Result<String, Fail> {
+    let mut text = String::new(alloc);
+    for state in machine.table().rows() {
+        let region = state.region;
+        let version = state.epoch.version;
+        let mode = word_of(state.mode);
+        let line = format!(in alloc; "{region} at {version} {mode};")?;
+        text.push_str(line.as_str())?;
     }
-    Ok(machine.into_outcome()?)
+    Ok(text)
 }
 
-fn all_told(alloc: Global, plan: &Plan) -> Result<StoreOutcome, Fail>
-    requires { plan.now ≡ small_input }
-{
-    let mut machine = StoreFsm::new(alloc, plan, 0)?;
-    let reshaped = StoreMsg::Reshaped {
-        plan,
-        address: 0,
-        nth: 1,
-    };
-    machine.handle(reshaped)?;
-    tell(alloc, &mut machine, target_ends(alloc, plan)?)?;
-    tell(alloc, &mut machine, target_ends(alloc, plan)?)?;
-    if machine.complete() || machine.place() != 0 {
-        return Err(Fail::new("one ending is enough"));
+/// The regions that hold the least key and a greater one.
+fn owners(alloc: Global, machine: &StoreFsm<'_>) -> Result<[Option<u64>; 2], Fail> {
+    let least = Key::new(alloc, &[0])?;
+    let greater = Key::new(alloc, &[0x6d])?;
+    Ok([machine.find(&least), machine.find(&greater)])
+}
+
+const OPENING: &str = "1 at 1 normal;";
+
+const SPLIT: &str = "1 at 2 normal;2 at 2 normal;";
+
+const PREPARED: &str = "1 at 2 normal;2 at 3 merging;";
+
+const MERGED: &str = "1 at 4 normal;2 at 3 merged;";
+
+#[test]
+fn the_table_is_the_same_in_every_order(rt: HostRuntime) -> Result<(), Fail> {
+    let alloc = rt.alloc();
+    let plan = &plan(alloc)?;
+    if plan.input().stores.len() != 2 {
+        return Err(Fail::new("another plan"));
     }
-    tell(alloc, &mut machine, source_ends(alloc, plan)?)?;
-    outcome_of(machine)
+    let cases: [(&[(u32, u64)], &str, u64); 10] = [
+        (&[], OPENING, 1),
+        (&[(0, 1)], SPLIT, 2),
+        (&[(0, 1), (0, 1)], SPLIT, 2),
+        (&[(0, 1), (1, 1)], PREPARED, 2),
+        (&[(0, 1), (1, 1), (0, 2)], MERGED, 1),
+        (&[(0, 2), (1, 1), (1, 1), (0, 1), (0, 2)], MERGED, 1),
+        // a prepare before the split that made its region
+        (&[(1, 1)], OPENING, 1),
+        // a commit before its source's prepare
+        (&[(0, 1), (0, 2)], SPLIT, 2),
+        // another store's, and what the plan doesn't have
+        (&[(2, 1), (3, 1)], OPENING, 1),
+        (&[(0, 0), (0, 3), (1, 2), (4, 1)], OPENING, 1),
+    ];
+    for (reshapings, table, least) in cases {
+        let machine = told(alloc, plan, 0, reshapings)?;
+        assert_eq!(rt; table_text(alloc, &machine)?.as_str(), table);
+        assert_eq!(rt; owners(alloc, &machine)?, [Some(least), Some(1)]);
+        assert!(rt; !machine.complete());
+    }
+    Ok(())
 }
 
 #[test]
-fn endings_become_the_outcome(rt: HostRuntime) -> Result<(), Fail> {
-    let plan = small_plan(rt.alloc())?;
-    let outcome = all_told(rt.alloc(), &plan)?;
-    assert_eq!(rt; outcome.id, 1);
-    assert_eq!(rt; outcome.regions.len(), 2);
-    assert!(rt; outcome.regions.as_slice()[0].mode == Mode::Merged { target: 2 });
-    assert_eq!(rt; outcome.regions.as_slice()[1].epoch.version, 3);
-    assert_eq!(rt; outcome.replies.len(), 2);
-    assert_eq!(rt; outcome.pairs.len() + outcome.histories.len(), 0);
+fn a_machine_tables_its_own_store(rt: HostRuntime) -> Result<(), Fail> {
+    let alloc = rt.alloc();
+    let plan = &plan(alloc)?;
+    if plan.input().stores.len() != 2 {
+        return Err(Fail::new("another plan"));
+    }
+    let machine = told(alloc, plan, 1, &[(1, 1), (0, 1), (2, 1)])?;
+    assert_eq!(rt; machine.place(), 1);
+    assert_eq!(rt; table_text(alloc, &machine)?.as_str(), SPLIT);
     Ok(())
 }

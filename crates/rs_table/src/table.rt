@@ -1,20 +1,24 @@
-ghost use Rattle.std.specs.Prelude.{◌≡◌, ◌||◌, ◌&&◌, ◌↔◌, ℕ, true, false, IsTrue, OnOk, OnErr, IfOk, MatchOption};
+ghost use Rattle.std.specs.Prelude.{◌≡◌, ◌<◌, ◌||◌, ◌&&◌, ◌↔◌, ℕ, true, false, IsTrue, OnOk, OnErr, IfOk, MatchOption};
+ghost use Rattle.std.specs.Option.{option_copied};
 ghost use Rattle.rs_region.specs.declared.state.RegionState.{RegionState};
 ghost use Rattle.rs_key.specs.Ranges.{holds};
 ghost use Rattle.rs_order.specs.Stores.{is_live};
 ghost use Rattle.rs_value.specs.Counting.{IsAmong};
 ghost use Rattle.rs_check.specs.Tables.{owner};
+ghost use Rattle.rs_check.specs.Values.{count_of, region_of};
 ghost use Rattle.rs_table.specs.Covers.{IsOwner, NoneOwns};
-ghost use Rattle.rs_table.specs.Cuts.{AllTold, AreKnown, IsCut, IsFull, IsGreatest, IsIn, is_known};
+ghost use Rattle.rs_table.specs.Cuts.{AllTold, AreKnown, IsCut, IsFull, IsGreatest, IsIn, is_known, is_on};
 ghost use Rattle.rs_table.specs.Moves.{nothing_covered};
-ghost use Rattle.rs_table.specs.Rows.{IsTable};
+ghost use Rattle.rs_table.specs.Rows.{IsTable, final_state, state_of};
 ghost use Rattle.rs_table.specs.Tellings.{has, is_this, nothing, numbers};
 
 use crate::growing::Growing;
 use crate::laws::table_laws;
 use crate::needs::is_on;
+use crate::place::find;
 use rs_check::{Plan, RegionTable};
 use rs_key::{Key, NoMemory};
+use rs_region::RegionState;
 use std::alloc::Global;
 
 /// What was told of a store, and the table of a cut of it: unless a call met want of memory, of the greatest.
@@ -76,6 +80,20 @@ impl<'p> StoreTable<'p> {
         Ok(())
     }
 
+    /// The store's place among the plan's stores, counted from 0.
+    pub fn place(&self) -> u32
+        ensures { result ≡ place_of self.now }
+    {
+        self.growing.place
+    }
+
+    /// Whether a call has met want of memory.
+    pub fn is_spent(&self) -> bool
+        ensures { result ≡ self.now.spent }
+    {
+        self.spent
+    }
+
     /// The states of the regions that the cut has, by id. It takes no memory.
     pub fn table(&self) -> &RegionTable
         ensures value { result.now ≡ rows_of self.now }
@@ -86,6 +104,18 @@ impl<'p> StoreTable<'p> {
         ensures greatest { self.now.spent ≡ false → IsGreatest (input_of self.now) (place_of self.now) (told_of self.now) (cut_of self.now) }
     {
         &self.growing.table
+    }
+
+    /// The state of the address's region in the table. Once the table has every reshaping it is the one that the plan
+    /// ends the region with. It takes no memory.
+    pub fn state(&self, a: u32) -> Option<&RegionState>
+        requires { a < count_of (input_of self.now) }
+        ensures value { option_copied result ≡ state_of (rows_of self.now) (region_of (input_of self.now) a) }
+        ensures ended { IsFull (input_of self.now) (place_of self.now) (cut_of self.now) → is_on (input_of self.now) (place_of self.now) a ≡ true → option_copied result ≡ final_state (input_of self.now) a }
+    {
+        table_laws(self.growing.plan, self.growing.place);
+        let (_, region) = self.growing.plan.address(a);
+        find(self.table().rows(), region)
     }
 
     /// The live region of the table that holds the key; None exactly where none does. It takes no memory.

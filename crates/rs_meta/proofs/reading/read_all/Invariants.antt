@@ -3,4 +3,4 @@ use Rattle.rs_meta.proofs.ReadSteps.{HasRead}
 use Rattle.rs_meta.proofs.reading.read_all.Given as goal
 
 abbrev pub invariant-loop-ending : goal.invariant-loop-ending
-invariant-loop-ending l = HasRead l.plan l.fn.endings.items (into_iter_items l.ending-iterator) l.lines l.replies l.map
+invariant-loop-ending l = HasRead l.fn.endings.items (into_iter_items l.ending-iterator) l.replies l.writes

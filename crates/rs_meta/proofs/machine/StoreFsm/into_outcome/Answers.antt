@@ -1,4 +1,6 @@
 use Rattle.std.proofs.Common.{◌∙◌, ap, sym, subst}
+use Rattle.std.specs.List.{filter_map}
+use Rattle.rs_table.specs.Views.{place_of}
 use Rattle.rs_meta.specs.Addresses.{count_on, first_of}
 use Rattle.rs_meta.specs.Held.{AreOwn}
 use Rattle.rs_meta.specs.Readings.{AreEndings}
@@ -11,7 +13,8 @@ read_off-requires-clause-endings c =
     let input = self.plan.now in
     let endings = self.endings in
     let slots = endings.slots.items in
-    let begins = endings.begins ∙ (ap (λ p. first_of p.now endings.place) self.of_plan ∙ ap (first_of input) self.of_place) in
-    let counted = endings.counted ∙ (ap (λ p. count_on p.now endings.place) self.of_plan ∙ ap (count_on input) self.of_place) in
-    let own = subst (λ p. AreOwn p.now endings.first slots) self.of_plan endings.own in
-    subst (AreEndings input self.place) (sym c.in_ok-endings.ensures) (all_endings input self.place endings.first slots begins counted own c.requires.complete)
+    let begins = endings.begins ∙ (ap (λ p. first_of p.now endings.place) self.endings_plan ∙ ap (first_of input) self.endings_place) in
+    let counted = endings.counted ∙ (ap (λ p. count_on p.now endings.place) self.endings_plan ∙ ap (count_on input) self.endings_place) in
+    let own = subst (λ p. AreOwn p.now endings.first slots) self.endings_plan endings.own in
+    subst (AreEndings input (place_of self.table)) (sym c.in_ok-endings.ensures)
+    (subst (λ p. AreEndings input p (filter_map (λ slot. slot) slots)) (sym self.table_place) (all_endings input self.place endings.first slots begins counted own c.requires.complete.ended))
