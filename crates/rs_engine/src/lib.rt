@@ -11,6 +11,8 @@ mod routers;
 mod running;
 mod taking;
 mod telling;
+#[cfg(test)]
+mod tests;
 mod workers;
 
 pub use options::Options;

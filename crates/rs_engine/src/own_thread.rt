@@ -5,14 +5,14 @@ ghost use Rattle.rs_pool.specs.Stores.{AreThere};
 
 use crate::taking::Taking;
 use crate::telling::Telling;
-use crate::workers::{ApplyPoller, ControlPoller, PeerPoller};
+use crate::workers::{ApplyPoller, ControlPoller, PeerPoller, take_turn};
 use once_cell::race::OnceBox;
 use rs_apply::ApplyFsm;
 use rs_base::{Gate, OpenGate};
 use rs_check::Plan;
 use rs_entry::Outcome;
 use rs_key::NoMemory;
-use rs_poll::{Stop, Worked};
+use rs_poll::Stop;
 use rs_pool::{ControlOut, Seat};
 use std::alloc::Global;
 use std::sync::Wait;
@@ -100,9 +100,9 @@ impl<'r, 'p> OwnThread<'r, 'p> {
         ensures { self.new.plan ≡ self.old.plan }
     {
         let told = self.telling.tell_next(rt)?;
-        let peers = worked(self.peers.poll_once(rt, gate)?);
-        let applies = worked(self.applies.poll_once(rt, gate)?);
-        let control = worked(self.control.poll_once(rt, &OpenGate)?);
+        let peers = take_turn(rt, gate, &mut self.peers)?;
+        let applies = take_turn(rt, gate, &mut self.applies)?;
+        let control = take_turn(rt, &OpenGate, &mut self.control)?;
         self.take_told(alloc)?;
         Ok(told || peers || applies || control)
     }
@@ -123,7 +123,7 @@ impl<'r, 'p> OwnThread<'r, 'p> {
         Ok(())
     }
 
-    /// Waits for a control machine's ticket where the pools have workers, and else lets other threads go first.
+    /// Waits for a control machine's ticket where the pools have workers, and else yields. It may return at any time.
     fn wait<R: Wait>(&mut self, rt: &R, is_helped: bool)
         ensures { self.new.plan ≡ self.old.plan }
     {
@@ -142,11 +142,4 @@ fn take_out<'r, 'p>(alloc: Global, poller: &mut ControlPoller<'r, 'p>) -> Contro
 {
     let worker = &mut poller.worker;
     mem::replace(&mut worker.out, ControlOut::new(alloc))
-}
-
-fn worked(worked: Worked) -> bool {
-    match worked {
-        Worked::Turned(_) | Worked::Gone(_) => true,
-        Worked::Nothing => false,
-    }
 }

@@ -12,7 +12,7 @@ pub struct Routers<'p> {
 }
 
 impl<'p> Routers<'p> {
-    /// Lets all workers go on that wait for a ticket.
+    /// Wakes the scheduler of each router.
     pub fn wake(&self) {
         self.peers.scheduler().wake();
         self.applies.scheduler().wake();

@@ -23,7 +23,8 @@ use std::thread::Threads;
 /// What comes of a plan's logs, by pollers in threads of their own and in this one: the outcome that one thread gives
 /// that folds the logs in order.
 ///
-/// It waits for its workers. A thread that can't be started is no error: the others do its work.
+/// It waits for its workers. A thread that can't be started is no error: its worker is dropped, and this thread has a
+/// seat at the same machines.
 pub fn run<R: Threads + Wait + Sync, G: Gate>(
     rt: &R,
     alloc: Global,

@@ -1,10 +1,14 @@
+ghost use Rattle.std.specs.Prelude.{◌≡◌};
+
 use crate::routers::Routers;
 use once_cell::race::OnceBox;
 use rs_apply::ApplyFsm;
 use rs_base::Gate;
+use rs_key::NoMemory;
+use rs_mailcore::{Fsm, Named};
 use rs_meta::StoreFsm;
 use rs_peer::PeerFsm;
-use rs_poll::{Poller, Stop};
+use rs_poll::{Handler, Poller, Stop, Worked};
 use rs_pool::{ApplyHandler, ControlHandler, PeerHandler};
 use rs_router::QueueScheduler;
 use std::sync::Wait;
@@ -34,14 +38,8 @@ impl<'r, 'p> PeerWorker<'r, 'p> {
         stop: &OnceBox<Stop>,
         routers: &Routers<'p>,
     ) {
-        let PeerWorker {
-            mut poller,
-            no_memory,
-        } = self;
-        let mut note = stop.note();
-        if poller.serve(rt, gate, stop, &mut note).is_err() {
-            end(stop, no_memory, routers);
-        }
+        let PeerWorker { poller, no_memory } = self;
+        serve(rt, gate, stop, routers, poller, no_memory);
     }
 }
 
@@ -61,14 +59,37 @@ impl<'r, 'p> ApplyWorker<'r, 'p> {
         stop: &OnceBox<Stop>,
         routers: &Routers<'p>,
     ) {
-        let ApplyWorker {
-            mut poller,
-            no_memory,
-        } = self;
-        let mut note = stop.note();
-        if poller.serve(rt, gate, stop, &mut note).is_err() {
-            end(stop, no_memory, routers);
-        }
+        let ApplyWorker { poller, no_memory } = self;
+        serve(rt, gate, stop, routers, poller, no_memory);
+    }
+}
+
+/// Lets a poller serve until the run ends. Where memory runs out it ends the run.
+fn serve<'r, F: Fsm, H: Handler<F, QueueScheduler>, R: Wait, G: Gate>(
+    rt: &R,
+    gate: &G,
+    stop: &OnceBox<Stop>,
+    routers: &Routers<'_>,
+    mut poller: Poller<'r, F, QueueScheduler, H>,
+    no_memory: Box<Stop>,
+) {
+    let mut note = stop.note();
+    if poller.serve(rt, gate, stop, &mut note).is_err() {
+        end(stop, no_memory, routers);
+    }
+}
+
+/// Lets a poller take one turn. Whether there was a ticket.
+pub fn take_turn<'r, F: Fsm, H: Handler<F, QueueScheduler>, R: Wait, G: Gate>(
+    rt: &R,
+    gate: &G,
+    poller: &mut Poller<'r, F, QueueScheduler, H>,
+) -> Result<bool, NoMemory>
+    ensures { H.name poller.new.worker.handler ≡ H.name poller.old.worker.handler }
+{
+    match poller.poll_once(rt, gate)? {
+        Worked::Turned(_) | Worked::Gone(_) => Ok(true),
+        Worked::Nothing => Ok(false),
     }
 }
 

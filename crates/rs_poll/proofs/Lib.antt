@@ -1,3 +1,2 @@
 mod Endings
-mod Fronts
 mod Lifts

@@ -1,6 +1,6 @@
 -- What a visit leaves at one station, seen in the steps of all stations but those of sending.
 use Rattle.std.proofs.Common.{◌≡◌, ℕ, ◌+◌, ◌<◌, ◌≤◌, ⊎_elim, inl, inr, true, List, [], ◌∷◌, ◌++◌, map, length, get_or, set, refl, sym, ap, ◌∙◌, subst}
-use Rattle.std.proofs.lemmas.List.{append_assoc, length-map, map-set}
+use Rattle.std.proofs.lemmas.List.{length-map, map-set}
 use Rattle.std.proofs.lemmas.List.Elements.{filter-append}
 use Rattle.std.proofs.Math.ListN as listn
 use Rattle.std.specs.Prelude.{MatchResult, Result}
@@ -12,6 +12,7 @@ use Rattle.rs_mailbox.specs.Steps.{deed}
 use Rattle.rs_router.specs.Desks.{ChangesAt}
 use Rattle.rs_router.specs.Lists.{Adds, SameBag, StartsWith}
 use Rattle.rs_router.specs.Turns.{turning, is_turning}
+use Rattle.rs_router.proofs.Prefixes.{starts_then}
 use Rattle.rs_poll.specs.declared.handler.More.{More}
 use Rattle.rs_poll.specs.declared.handler.More.TheVariants.{Yes, No}
 use Rattle.rs_poll.specs.declared.worked.Visited.{Visited}
@@ -81,10 +82,6 @@ module _ (P : ℕ → Type 0) where
 
 pub quits_turning : (batch : ℕ) (xs ys : List Deed) → GivesUp batch xs ys → GivesUp batch (turning xs) (turning ys)
 quits_turning batch xs ys g = takes (λ n. n ≤ batch) Quits (λ h us ws q. ⊎_elim (λ s. inl (abandons h us ws s)) (λ s. inr (reschedules 2 h us ws s)) q) xs ys g
-
--- a list that begins with one that begins with a third
-pub starts_then : (xs ys zs : List ℕ) → StartsWith ys xs → StartsWith zs ys → StartsWith zs xs
-starts_then xs ys zs first more = (first.0 ++ more.0, more.1 ∙ ap (λ us. us ++ more.0) first.1 ∙ append_assoc xs first.0 more.0)
 
 -- the list goes on after the visit
 pub turns_on : (P : ℕ → Type 0) (more : More) (address : ℕ) (ps qs rs : List ℕ) (xs ys : List Deed) → StartsWith rs qs → Turns P more address ps qs xs ys → Turns P more address ps rs xs ys

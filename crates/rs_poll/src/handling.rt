@@ -1,5 +1,5 @@
 ghost use Rattle.std.specs.Prelude.{◌≡◌, ◌≤◌, ◌+◌, ℕ, IfOk, MatchResult, OnOk};
-ghost use Rattle.rs_mailbox.specs.Stations.{handled_of, machine_of, mailbox_name, IsStationOf, IsTurnOf};
+ghost use Rattle.rs_mailbox.specs.Stations.{handled_of, mailbox_name, IsStationOf, IsTurnOf};
 ghost use Rattle.rs_router.specs.Lists.{Rose};
 ghost use Rattle.rs_poll.specs.Counts.{RoseBy};
 

@@ -1,4 +1,4 @@
-ghost use Rattle.std.specs.Prelude.{◌≡◌, ◌<◌, All, IfSome, length};
+ghost use Rattle.std.specs.Prelude.{◌≡◌, ◌<◌, All, IfOk, IfSome, length};
 ghost use Rattle.rs_router.specs.Desks.{AreDesksOf, AllCalm};
 ghost use Rattle.rs_router.specs.Passes.{IsNewPass};
 
@@ -8,9 +8,10 @@ mod relaying;
 mod turns;
 mod workers;
 
-use rs_key::Rows;
+use rs_key::{NoMemory, Rows};
 use rs_mailcore::{Fsm, Named};
 use rs_router::{Desks, QueueScheduler, RouteError, Router, Scheduler, SchedulerPass};
+use std::alloc::Global;
 use std::sync::Wait;
 
 /// A machine that counts its messages and adds up their numbers.
@@ -43,6 +44,20 @@ impl Fsm for Tally {
     type Message = Note;
 
     ghost one_name = { ℕ_set };
+}
+
+/// So many machines that have handled nothing.
+pub fn machines(alloc: Global, count: u32) -> Result<Rows<Tally>, NoMemory>
+    ensures { IfOk result (λ m. length m ≡ count) }
+{
+    let mut list = Rows::new(alloc);
+    for k in 0..count {
+        list.push(Tally {
+            messages: 0,
+            total: 0,
+        })?;
+    }
+    Ok(list)
 }
 
 /// The last of the desks.

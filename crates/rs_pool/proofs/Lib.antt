@@ -1,4 +1,1 @@
-pub mod Fronts
-pub mod Prefixes
-pub mod Reaching
 pub mod WholeOutcomes

@@ -1,5 +1,5 @@
 -- What the peer machines are told of their logs.
-use Rattle.std.specs.Prelude.{◌≡◌, ℕ, ◌+◌, min, ltb, List, [], ◌∷◌, ◌++◌, map, Option, Some, None, if◌then◌else◌}
+use Rattle.std.specs.Prelude.{◌≡◌, ℕ, ◌+◌, min, ltb, List, [], ◌∷◌, ◌++◌, Option, Some, None, if◌then◌else◌}
 use Rattle.std.specs.Borrow.{Bor}
 use Rattle.rs_entry.specs.declared.input.Input.{Input}
 use Rattle.rs_check.specs.declared.plan.Plan.{Plan}

@@ -1,5 +1,5 @@
 -- What a handler's machines may have to tell.
-use Rattle.std.specs.Prelude.{◌≡◌, ℕ, ◌<◌, List, length, slice_index_or}
+use Rattle.std.specs.Prelude.{◌≡◌, ◌<◌, List, length, slice_index_or}
 use Rattle.std.specs.List.{All}
 use Rattle.std.specs.Coded.{Coded-set, le_prop, ×_prop}
 use Rattle.rs_entry.specs.declared.input.Input.{Input}

@@ -1,9 +1,16 @@
--- The outcomes of stores, by their places in the plan.
+-- Control machines that are complete, and the outcomes of stores, by their places in the plan.
 use Rattle.std.specs.Prelude.{◌≡◌, ℕ, true, List, All, Option, Some, None, get_or, is_some, slice_get}
 use Rattle.std.specs.Option.{option_map}
 use Rattle.rs_entry.specs.declared.input.Input.{Input}
 use Rattle.rs_entry.specs.declared.outcome.StoreOutcome.{StoreOutcome}
+use Rattle.rs_meta.specs.declared.machine.StoreFsm.{StoreFsm}
+use Rattle.rs_meta.specs.Machines.{IsComplete as HasAll, held_by}
+use Rattle.rs_table.specs.Views.{cut_of}
 use Rattle.rs_outcome.specs.Outcomes.{store_outcome}
+
+-- the machine holds the ending of each address of its store, and its table has each of the store's reshapings
+abbrev pub IsComplete : StoreFsm → Type 0
+IsComplete machine = HasAll machine.plan.now machine.place (held_by machine.endings) (cut_of machine.table)
 
 -- those that are there are the stores' own
 abbrev pub AreOutcomes : Input → List (Option StoreOutcome) → Type 0

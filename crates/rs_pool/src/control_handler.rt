@@ -1,7 +1,8 @@
-ghost use Rattle.std.specs.Prelude.{◌≡◌, ◌<◌, [], IfSome};
+ghost use Rattle.std.specs.Prelude.{◌≡◌, ◌<◌, [], ◌∷◌, ◌++◌, IfSome, IsOk, OnOk, OnErr};
 ghost use Rattle.rs_check.specs.Values.{count_of};
 ghost use Rattle.rs_msg.specs.Names.{name_of_store};
 ghost use Rattle.rs_pool.specs.Outs.{FitsControl};
+ghost use Rattle.rs_pool.specs.Stores.{IsComplete};
 
 use rs_check::Plan;
 use rs_entry::Mode;
@@ -34,15 +35,19 @@ impl ControlOut {
         }
     }
 
-    /// Names the machine where it is complete.
+    /// Names the machine, by its store's place, exactly where it is complete.
     pub fn name_if_complete(&mut self, machine: &StoreFsm<'_>) -> Result<(), NoMemory>
         requires { FitsControl machine.now.plan.now self.old }
-        ensures { FitsControl machine.now.plan.now self.new }
+        ensures fits { FitsControl machine.now.plan.now self.new }
+        ensures named { IsComplete machine.now → OnOk result (self.new.complete ≡ self.old.complete ++ machine.now.place ∷ []) }
+        ensures unnamed { ¬ IsComplete machine.now → IsOk result × (self.new.complete ≡ self.old.complete) }
+        ensures err { OnErr result (self.new.complete ≡ self.old.complete) }
+        ensures removed { self.new.removed ≡ self.old.removed }
     {
-        if machine.complete() {
-            self.complete.push(machine.place())?;
+        if !machine.complete() {
+            return Ok(());
         }
-        Ok(())
+        self.complete.push(machine.place())
     }
 }
 

@@ -2,7 +2,7 @@ ghost use Rattle.std.specs.Prelude.{◌≡◌, ◌<◌, ◌++◌, ◌∷◌, [],
 ghost use Rattle.std.specs.List.{range_with_len};
 ghost use Rattle.rs_check.specs.Values.{count_of};
 ghost use Rattle.rs_msg.specs.Names.{name_of_peer};
-ghost use Rattle.rs_pool.specs.Delivering.{IsNext, again, last_own, next_upto, opening};
+ghost use Rattle.rs_pool.specs.Delivering.{IsNext, last_own, opening};
 ghost use Rattle.rs_pool.specs.Routes.{IsFor};
 
 use crate::told::Told;

@@ -1,4 +1,4 @@
-ghost use Rattle.std.specs.Prelude.{◌≡◌, ◌<◌, ℕ, true, Some, None, IfOk, IfSome, get_or, length, slice_get};
+ghost use Rattle.std.specs.Prelude.{◌≡◌, ◌<◌, ◌↔◌, Some, None, All, IfOk, IsTrue, length, slice_get, slice_set};
 ghost use Rattle.std.specs.Option.{option_map};
 ghost use Rattle.rs_outcome.specs.Outcomes.{outcome_of, store_outcome};
 ghost use Rattle.rs_pool.specs.Stores.{AreOutcomes, AreThere};
@@ -20,7 +20,8 @@ pub struct Gathered<'p> {
 impl<'p> Gathered<'p> {
     /// None is there.
     pub fn new(alloc: Global, plan: &'p Plan) -> Result<Gathered<'p>, NoMemory>
-        ensures { IfOk result (λ g. g.plan ≡ plan.entry) }
+        ensures plan { IfOk result (λ g. g.plan ≡ plan.entry) }
+        ensures none { IfOk result (λ g. All (λ outcome. outcome ≡ None) g.outcomes.items) }
     {
         let mut outcomes = Vec::new(alloc);
         for place in 0..plan.input().stores.len() {
@@ -29,18 +30,19 @@ impl<'p> Gathered<'p> {
         Ok(Gathered { plan, outcomes })
     }
 
-    /// The outcome of the store at the place is there.
+    /// The outcome of the store at the place is there, and those of the others are as they were.
     pub fn put(&mut self, place: u32, outcome: StoreOutcome)
         requires place { place < length self.old.plan.now.stores }
         requires outcome { option_map store_outcome (slice_get self.old.plan.now.stores place) ≡ Some outcome }
-        ensures { self.new.plan ≡ self.old.plan }
+        ensures plan { self.new.plan ≡ self.old.plan }
+        ensures outcomes { self.new.outcomes.items ≡ slice_set self.old.outcomes.items place (Some outcome) }
     {
         self.outcomes[place as usize] = Some(outcome);
     }
 
     /// Whether all are there.
     pub fn is_whole(&self) -> bool
-        ensures { result ≡ true → AreThere self.now.outcomes.items }
+        ensures { IsTrue result ↔ AreThere self.now.outcomes.items }
     {
         self.outcomes.iter().all(|outcome| outcome.is_some())
     }

@@ -1,4 +1,4 @@
-ghost use Rattle.std.specs.Prelude.{◌≡◌, ◌≤◌, ◌<◌, All, IfOk, length};
+ghost use Rattle.std.specs.Prelude.{◌≡◌, ◌≤◌, ◌<◌, All, IfOk, OnOk, length};
 ghost use Rattle.rs_check.specs.Values.{count_of};
 ghost use Rattle.rs_router.specs.Desks.{AreDesksOf, AllCalm, AllNamed};
 ghost use Rattle.rs_router.specs.Passes.{IsNewPass};
@@ -54,11 +54,26 @@ pub fn control_machines<'p>(
     let mut machines = Rows::with_room(alloc, count as usize);
     let mut out = ControlOut::new(alloc);
     for place in 0..count {
-        let machine = StoreFsm::new(alloc, plan, place)?;
-        out.name_if_complete(&machine)?;
-        machines.push(machine)?;
+        machines.push(control_machine(alloc, plan, place, &mut out)?)?;
     }
     Ok((machines, out))
+}
+
+/// The control machine of the store at the place. It is named where it is complete from the start.
+fn control_machine<'p>(
+    alloc: Global,
+    plan: &'p Plan,
+    place: u32,
+    out: &mut ControlOut,
+) -> Result<StoreFsm<'p>, NoMemory>
+    requires place { place < length plan.now.stores }
+    requires out { FitsControl plan.now out.old }
+    ensures name { IfOk result (λ machine. machine.plan.now ≡ plan.now) }
+    ensures out { OnOk result (FitsControl plan.now out.new) }
+{
+    let machine = StoreFsm::new(alloc, plan, place)?;
+    out.name_if_complete(&machine)?;
+    Ok(machine)
 }
 
 /// A router of the machines, with so many desks.

@@ -1,5 +1,5 @@
-ghost use Rattle.std.specs.Prelude.{◌≡◌, ◌<◌, All, OnOk, length};
-ghost use Rattle.rs_router.specs.Desks.{AreDesksOf, AllCalm, AllNamed};
+ghost use Rattle.std.specs.Prelude.{◌≡◌, All, OnOk};
+ghost use Rattle.rs_router.specs.Desks.{AreDesksOf, AllCalm};
 ghost use Rattle.rs_router.specs.Lists.{SameBag, StartsWith};
 ghost use Rattle.rs_router.specs.Turns.{turn_steps};
 ghost use Rattle.rs_pool.specs.Routes.{Reaches};

@@ -1,6 +1,7 @@
 mod Bounds
-mod Fronts
+pub mod Fronts
 mod NewDesks
 pub mod Places
+pub mod Prefixes
 mod SameIds
 pub mod Sends

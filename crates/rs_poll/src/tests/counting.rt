@@ -20,6 +20,23 @@ pub struct Counting<'a> {
     pub again: bool,
 }
 
+impl<'a> Counting<'a> {
+    /// It has counted nothing. Its machines ask for more exactly where they are to run again.
+    pub fn new(seen: &'a AtomicU64, mailboxes: u32, again: bool) -> Counting<'a>
+        ensures { result.mailboxes ≡ mailboxes }
+    {
+        Counting {
+            seen,
+            mailboxes,
+            handles: 0,
+            advances: 0,
+            asked: More::No,
+            before_advance: 0,
+            again,
+        }
+    }
+}
+
 impl<'a, S: Scheduler> Handler<Tally, S> for Counting<'a> {
     ghost use mathlib.Core.HLevel.{Unit-prop};
 

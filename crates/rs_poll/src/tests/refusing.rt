@@ -1,8 +1,8 @@
+use crate::Poller;
 use crate::tests::counting::Counting;
-use crate::tests::{Tally, next_desks, next_pass, tell};
-use crate::{More, Poller};
+use crate::tests::{machines, next_desks, next_pass, tell};
 use rs_base::OpenGate;
-use rs_key::{NoMemory, Rows};
+use rs_key::NoMemory;
 use rs_mailbox::Ticket;
 use rs_router::{QueueScheduler, Refused, RouteError, Router, Scheduler, SchedulerPass, Tickets};
 use std::sync::Wait;
@@ -71,11 +71,7 @@ impl Scheduler for Stingy {
 #[test]
 fn a_message_whose_ticket_is_refused_closes_its_mailbox(rt: HostRuntime) -> Result<(), Fail> {
     let alloc = rt.alloc();
-    let mut machines = Rows::new(alloc);
-    machines.push(Tally {
-        messages: 0,
-        total: 0,
-    })?;
+    let machines = machines(alloc, 1)?;
     let (inner, mut passes) = QueueScheduler::new(alloc, 1, 1)?;
     let Some(pass) = next_pass(&inner, &mut passes) else {
         panic!(rt; "no pass")
@@ -98,11 +94,7 @@ fn a_message_whose_ticket_is_refused_closes_its_mailbox(rt: HostRuntime) -> Resu
 #[test]
 fn a_machine_whose_ticket_is_refused_is_closed(rt: HostRuntime) -> Result<(), Fail> {
     let alloc = rt.alloc();
-    let mut machines = Rows::new(alloc);
-    machines.push(Tally {
-        messages: 0,
-        total: 0,
-    })?;
+    let machines = machines(alloc, 1)?;
     let (inner, mut passes) = QueueScheduler::new(alloc, 2, 1)?;
     let Some(mine) = next_pass(&inner, &mut passes) else {
         panic!(rt; "no pass")
@@ -126,15 +118,7 @@ fn a_machine_whose_ticket_is_refused_is_closed(rt: HostRuntime) -> Result<(), Fa
         panic!(rt; "no desks")
     };
     let seen = AtomicU64::new(0);
-    let handler = Counting {
-        seen: &seen,
-        mailboxes: 1,
-        handles: 0,
-        advances: 0,
-        asked: More::No,
-        before_advance: 0,
-        again: true,
-    };
+    let handler = Counting::new(&seen, 1, true);
     let mut poller = Poller::new(&router, desks, pass, handler, (), 0, 2);
     assert!(rt; tell(&rt, &router, &mut my_desks, &mut mine, 0, 3).is_ok());
     assert!(rt; matches!(poller.poll_once(&rt, &OpenGate), Err(NoMemory)));

@@ -4,7 +4,7 @@ ghost use Rattle.rs_router.specs.Lists.{SameBag, StartsWith};
 ghost use Rattle.rs_router.specs.Turns.{turn_steps};
 
 use crate::handler::{Handler, More};
-use crate::tests::{Note, Tally, next_desks, next_pass, tell};
+use crate::tests::{Note, Tally, machines, next_desks, next_pass, tell};
 use crate::{Poller, Worked};
 use rs_base::OpenGate;
 use rs_key::{NoMemory, Rows};
@@ -151,15 +151,7 @@ impl Handler<Tally, QueueScheduler> for Relaying {
 #[test]
 fn a_machine_sends_to_another_machine(rt: HostRuntime) -> Result<(), Fail> {
     let alloc = rt.alloc();
-    let mut machines = Rows::new(alloc);
-    machines.push(Tally {
-        messages: 0,
-        total: 0,
-    })?;
-    machines.push(Tally {
-        messages: 0,
-        total: 0,
-    })?;
+    let machines = machines(alloc, 2)?;
     let (scheduler, mut passes) = QueueScheduler::new(alloc, 2, 2)?;
     let Some(mut mine) = next_pass(&scheduler, &mut passes) else {
         panic!(rt; "no pass")

@@ -1,8 +1,7 @@
 use crate::tests::counting::Counting;
-use crate::tests::{Tally, next_desks, next_pass, tell};
-use crate::{More, Poller, Worked};
+use crate::tests::{machines, next_desks, next_pass, tell};
+use crate::{Poller, Worked};
 use rs_base::OpenGate;
-use rs_key::Rows;
 use rs_router::{QueueScheduler, Router};
 use std::sync::atomic::AtomicU64;
 use std::test::Fail;
@@ -10,11 +9,7 @@ use std::test::Fail;
 #[test]
 fn a_turn_handles_a_batch_and_then_there_is_nothing(rt: HostRuntime) -> Result<(), Fail> {
     let alloc = rt.alloc();
-    let mut machines = Rows::new(alloc);
-    machines.push(Tally {
-        messages: 0,
-        total: 0,
-    })?;
+    let machines = machines(alloc, 1)?;
     let (scheduler, mut passes) = QueueScheduler::new(alloc, 2, 1)?;
     let Some(mut mine) = next_pass(&scheduler, &mut passes) else {
         panic!(rt; "no pass")
@@ -30,15 +25,7 @@ fn a_turn_handles_a_batch_and_then_there_is_nothing(rt: HostRuntime) -> Result<(
         panic!(rt; "no desks")
     };
     let seen = AtomicU64::new(0);
-    let handler = Counting {
-        seen: &seen,
-        mailboxes: 1,
-        handles: 0,
-        advances: 0,
-        asked: More::No,
-        before_advance: 0,
-        again: false,
-    };
+    let handler = Counting::new(&seen, 1, false);
     let mut poller = Poller::new(&router, desks, pass, handler, (), 0, 2);
     assert!(rt; tell(&rt, &router, &mut my_desks, &mut mine, 0, 3).is_ok());
     assert!(rt; tell(&rt, &router, &mut my_desks, &mut mine, 0, 4).is_ok());

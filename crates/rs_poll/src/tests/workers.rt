@@ -1,10 +1,10 @@
-ghost use Rattle.std.specs.Prelude.{◌≡◌, ◌<◌, All, IfOk, length};
+ghost use Rattle.std.specs.Prelude.{◌≡◌, ◌<◌, All, length};
 ghost use Rattle.rs_router.specs.Desks.{AreDesksOf, AllCalm};
 ghost use Rattle.rs_router.specs.Passes.{IsNewPass};
 
 use crate::tests::counting::Counting;
-use crate::tests::{Tally, next_desks, next_pass, tell};
-use crate::{More, Poller, Stop, Worker};
+use crate::tests::{Tally, machines, next_desks, next_pass, tell};
+use crate::{Poller, Stop, Worker};
 use once_cell::race::OnceBox;
 use rs_base::OpenGate;
 use rs_key::{NoMemory, Rows};
@@ -23,19 +23,6 @@ const MAILBOXES: u32 = 100;
 const MESSAGES: u64 = 1000;
 
 type CountingPoller<'r, 'a> = Poller<'r, Tally, QueueScheduler, Counting<'a>>;
-
-fn machines(alloc: Global, count: u32) -> Result<Rows<Tally>, NoMemory>
-    ensures { IfOk result (λ m. length m ≡ count) }
-{
-    let mut list = Rows::new(alloc);
-    for k in 0..count {
-        list.push(Tally {
-            messages: 0,
-            total: 0,
-        })?;
-    }
-    Ok(list)
-}
 
 fn workers<'r, 'a>(
     alloc: Global,
@@ -57,15 +44,7 @@ fn workers<'r, 'a>(
         let Some(pass) = next_pass(router.scheduler(), passes) else {
             return Err(NoMemory);
         };
-        let handler = Counting {
-            seen,
-            mailboxes: router.count(),
-            handles: 0,
-            advances: 0,
-            asked: More::No,
-            before_advance: 0,
-            again: false,
-        };
+        let handler = Counting::new(seen, router.count(), false);
         list.push(Poller::new(router, one, pass, handler, (), worker, 3))?;
     }
     Ok(list)

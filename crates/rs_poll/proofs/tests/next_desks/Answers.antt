@@ -1,6 +1,6 @@
 use Rattle.std.proofs.Common.{rules}
 use Rattle.rs_router.specs.Desks.{AllCalm, AreDesksOf}
-use Rattle.rs_poll.proofs.Fronts.{front, last}
+use Rattle.rs_router.proofs.Fronts.{front, last}
 use Rattle.rs_poll.proofs.tests.next_desks.Goals as goal
 
 pub returns-clause-rest : goal.returns-clause-rest

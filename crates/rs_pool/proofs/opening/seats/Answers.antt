@@ -1,8 +1,8 @@
-use Rattle.std.proofs.Common.{◌≡◌, [], ◌∷◌, ◌++◌, All, length, length-append, sym, subst, ap, arith, rules, ◌∙◌}
+use Rattle.std.proofs.Common.{◌≡◌, [], ◌∷◌, ◌++◌, All, length, length-append, sym, subst, ap, arith, rules}
 use Rattle.std.proofs.lemmas.List.Elements.{All-push}
 use Rattle.rs_router.specs.Desks.{AreDesksOf, AllCalm}
 use Rattle.rs_router.specs.Passes.{IsNewPass}
-use Rattle.rs_pool.proofs.Fronts.{front, last}
+use Rattle.rs_router.proofs.Fronts.{front, last}
 use Rattle.rs_pool.proofs.opening.seats.Goals as goal
 
 pub loop-place-init : goal.loop-place-init

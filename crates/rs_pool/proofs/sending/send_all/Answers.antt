@@ -1,5 +1,5 @@
 use Rattle.std.proofs.Common.{◌∙◌}
-use Rattle.rs_pool.proofs.Prefixes.{starts_then}
+use Rattle.rs_router.proofs.Prefixes.{starts_then}
 use Rattle.rs_pool.proofs.sending.send_all.Goals as goal
 
 pub loop-address-preserved : goal.loop-address-preserved

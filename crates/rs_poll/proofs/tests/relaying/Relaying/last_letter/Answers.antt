@@ -1,5 +1,5 @@
 use Rattle.std.proofs.Common.{◌<◌, rules}
-use Rattle.rs_poll.proofs.Fronts.{front, last}
+use Rattle.rs_router.proofs.Fronts.{front, last}
 use Rattle.rs_poll.proofs.tests.relaying.Relaying.last_letter.Goals as goal
 
 pub returns-clause-rest : goal.returns-clause-rest

@@ -1,5 +1,5 @@
 use Rattle.std.proofs.Common.{refl, ◌∙◌}
-use Rattle.rs_poll.proofs.Lifts.{starts_then}
+use Rattle.rs_router.proofs.Prefixes.{starts_then}
 use Rattle.rs_poll.proofs.tests.relaying.RelayingHandlerTallyQueueScheduler.send_out.Goals as goal
 
 pub loop-sent-preserved : goal.loop-sent-preserved
