@@ -2,7 +2,7 @@ ghost use Rattle.std.specs.Prelude.{◌≡◌, ◌<◌, ◌≤◌, ◌++◌, ◌
 ghost use Rattle.rs_gen.specs.Rounds.{byte_in, child, cut, version, low, high, put, delete, carried_at, entry_at, first_write, second_write, main_write, last_write, child_entries, main_entries};
 
 use rs_entry::{Body, Carried, CarriedBody, Entry, Op, Side};
-use rs_key::{Epoch, Key, NoMemory, Rows, Value};
+use rs_key::{Bytes, Epoch, Key, NoMemory, Rows, Value};
 use std::alloc::Global;
 
 /// One round of a number's input, counted from 0.
@@ -159,7 +159,7 @@ impl Round {
 fn key(alloc: Global, byte: u8) -> Result<Key, NoMemory>
     ensures { IfOk result (λ key. key ≡ byte ∷ []) }
 {
-    let bytes = Vec::from_slice(alloc, &[byte])?;
+    let bytes = Bytes::new(alloc, &[byte])?;
     Ok(Key::from_bytes(bytes))
 }
 
@@ -167,7 +167,7 @@ fn put(alloc: Global, byte: u8, value: u8) -> Result<Op, NoMemory>
     ensures { IfOk result (λ o. o ≡ put byte value) }
 {
     let key = key(alloc, byte)?;
-    let bytes = Vec::from_slice(alloc, &[value])?;
+    let bytes = Bytes::new(alloc, &[value])?;
     Ok(Op::Put(key, Value::from_bytes(bytes)))
 }
 
