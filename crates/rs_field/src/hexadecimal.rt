@@ -1,16 +1,40 @@
 //! Fields in hexadecimal digits.
 //!
-//! They mean what the crate `hex` says they do, and are read by a table: a branch on each digit, as that
-//! crate has it, is guessed wrongly on every second digit of random bytes.
+//! They mean what the crate `hex` says they do. Digits are read by a table, since a branch on each, as that crate has
+//! it, is often guessed wrongly. They are written without the table that that crate has: a loop that only compares and
+//! adds can be compiled to work on many bytes at once.
 
 ghost use Rattle.std.specs.Prelude.{◌≡◌, ◌≤◌, ◌<◌, ◌*◌, ◌%◌, IfOk, IsErrOf, IsErr, Ok, MatchBool, MatchOption, length, slice_index, unwrap_or};
-ghost use Rattle.hex.specs.Hex.{decode_of, hex_digit_value};
+ghost use Rattle.hex.specs.Hex.{decode_of, encode_lower, hex_digit_value, lower_digits};
 ghost use Rattle.rs_field.specs.Fields.{hex_of};
 ghost use Rattle.rs_field.specs.Gives.{Decodes, Gives};
 
 use crate::fault::{LineError, TextKind};
 use rs_key::Bytes;
 use std::alloc::Global;
+
+/// The digit of lower case that has this value.
+fn lower_digit(value: u8) -> u8
+    requires { value < 16 }
+    ensures { result ≡ slice_index lower_digits value }
+{
+    if value < 10 {
+        b'0' + value
+    } else {
+        value - 10 + b'a'
+    }
+}
+
+/// Puts two digits of lower case for each byte into the room, which has twice as many places.
+pub fn encode_into(bytes: &[u8], room: &mut [u8])
+    requires { length room.old ≡ 2 * length bytes.now }
+    ensures { room.new ≡ encode_lower bytes.now }
+{
+    for i in 0..bytes.len() {
+        room[2 * i] = lower_digit(bytes[i] / 16);
+        room[2 * i + 1] = lower_digit(bytes[i] % 16);
+    }
+}
 
 /// The value of each byte as a digit of either case, and 255 where it is none.
 const VALUES: &[u8; 256] = &[

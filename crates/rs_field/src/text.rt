@@ -3,6 +3,7 @@ ghost use Rattle.std.specs.Fmt.{decimal};
 ghost use Rattle.hex.specs.Hex.{encode_lower};
 ghost use Rattle.rs_field.specs.Forms.{Appends, Exact, Hex, number, bound, value, bounds, epoch, field_text, more_text};
 
+use crate::hexadecimal::encode_into;
 use itoa::Buffer;
 use rs_key::{Epoch, Key, NoMemory, Range, Rows, Value};
 
@@ -26,10 +27,14 @@ pub fn put_word(out: &mut Vec<u8>, word: &str) -> Result<(), NoMemory>
     Ok(())
 }
 
-/// Appends the decimal digits of a number.
+/// Appends the decimal digits of a number. One digit needs no buffer.
 pub fn put_number(out: &mut Vec<u8>, n: u64) -> Result<(), NoMemory>
     ensures { Appends result out.old out.new (decimal n) }
 {
+    if n < 10 {
+        out.push(b'0' + n as u8)?;
+        return Ok(());
+    }
     let mut buffer = Buffer::new();
     put_word(out, buffer.format(n))
 }
@@ -46,9 +51,7 @@ pub fn put_hex(out: &mut Vec<u8>, bytes: &[u8]) -> Result<(), NoMemory>
         return Err(NoMemory);
     };
     out.resize(end, 0)?;
-    let Ok(()) = hex::encode_to_slice(bytes, &mut out[start..]) else {
-        unreachable!()
-    };
+    encode_into(bytes, &mut out[start..]);
     Ok(())
 }
 
