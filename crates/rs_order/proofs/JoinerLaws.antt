@@ -1,18 +1,19 @@
 -- Only a region whose own log has a commit can stand before a merge.
 use Rattle.std.proofs.Common.{◌≡◌, ℕ, zero, suc, ◌-◌, List, [], ◌∷◌, cond, refl, ap, ◌∙◌}
-use Rattle.std.specs.Prelude.{Bool, true, false, ◌||◌, Option, Some, None, filter, slice_get}
-use Rattle.std.specs.List.{list_any}
+use Rattle.std.specs.Prelude.{Bool, true, false, ◌||◌, Option, Some, None, filter, slice_get, ◌==◌}
+use Rattle.std.specs.List.{find, list_any}
 use mathlib.Core.Path.{fun_ext}
 use Rattle.rs_entry.specs.declared.entry.Body.{Body}
 use Rattle.rs_entry.specs.declared.entry.Body.TheVariants as body
 use Rattle.rs_entry.specs.declared.entry.Entry.{Entry}
+use Rattle.rs_entry.specs.declared.input.Log.{Log}
 use Rattle.rs_entry.specs.declared.input.Store.{Store}
 use Rattle.rs_region.specs.Verdicts.{verdict}
 use Rattle.rs_region.specs.declared.state.RegionState.{RegionState}
 use Rattle.rs_order.specs.declared.regions.Made.{Made}
-use Rattle.rs_order.specs.Stores.{Applied, Merge, own, ids_of, goes_on, is_accept, merge_in, merge_of, own_next, stands, stands_in}
+use Rattle.rs_order.specs.Stores.{Applied, Merge, entries_of, own, ids_of, goes_on, is_accept, merge_in, merge_of, own_next, stands, stands_in}
 use Rattle.rs_order.specs.Carriers.{is_for, standing_for}
-use Rattle.rs_order.specs.Joiners.{commits, has_commit, is_commit, joiners_of}
+use Rattle.rs_order.specs.Joiners.{any_commit, commits, has_commit, is_commit, joiners_of, log_commits}
 
 found_any : (test : Entry → Bool) (es : List Entry) (k : ℕ) (e : Entry) → slice_get es k ≡ Some e → test e ≡ true → list_any test es ≡ true
 found_any test [] k e found passes = absurd cc
@@ -77,3 +78,22 @@ filter_within p q within (x ∷ xs) = go (q x) refl (p x) refl (filter_within p 
 -- who stands before a merge is found among them
 pub standing_joiners : (store : Store) (g : Applied) → standing_for store g (joiners_of store) ≡ standing_for store g (ids_of store)
 standing_joiners store g = fun_ext (λ source. filter_within (λ t. is_for source (stands store g t)) (has_commit store) (kept_one store g source) (ids_of store))
+
+-- ---- a store without a commit
+
+none_here : (id : ℕ) (logs : List Log) → list_any log_commits logs ≡ false → list_any commits (entries_of (find (λ log. log.region == id) logs)) ≡ false
+none_here id [] h = refl
+none_here id (log ∷ logs) h = go (none_here id logs) (log.region == id) (log_commits log) refl h
+  where
+    go : (list_any log_commits logs ≡ false → list_any commits (entries_of (find (λ log. log.region == id) logs)) ≡ false) → (b c : Bool) → log_commits log ≡ c → (c || list_any log_commits logs) ≡ false → list_any commits (entries_of (cond b (Some log) (find (λ log. log.region == id) logs))) ≡ false
+    go rest b true e k = absurd cc
+    go rest true false e k = e
+    go rest false false e k = rest k
+
+none_of : (p : ℕ → Bool) → ((x : ℕ) → p x ≡ false) → (xs : List ℕ) → filter p xs ≡ []
+none_of p none [] = refl
+none_of p none (x ∷ xs) = rw (none x) (none_of p none xs)
+
+-- none of its regions can stand before a merge
+pub none_join : (store : Store) (ids : List ℕ) → any_commit store ≡ false → filter (has_commit store) ids ≡ []
+none_join store ids h = none_of (has_commit store) (λ id. none_here id store.logs h) ids

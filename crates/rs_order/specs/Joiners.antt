@@ -4,6 +4,7 @@ use Rattle.std.specs.List.{list_any}
 use Rattle.rs_entry.specs.declared.entry.Body.{Body}
 use Rattle.rs_entry.specs.declared.entry.Body.TheVariants as body
 use Rattle.rs_entry.specs.declared.entry.Entry.{Entry}
+use Rattle.rs_entry.specs.declared.input.Log.{Log}
 use Rattle.rs_entry.specs.declared.input.Store.{Store}
 use Rattle.rs_order.specs.Stores.{own, ids_of}
 
@@ -17,6 +18,14 @@ commits e = is_commit e.body
 -- the region's own log has a commit
 abbrev pub has_commit : Store → ℕ → Bool
 has_commit store id = list_any commits (own store id)
+
+-- the log has a commit
+abbrev pub log_commits : Log → Bool
+log_commits log = list_any commits log.entries
+
+-- one of the store's logs has a commit
+abbrev pub any_commit : Store → Bool
+any_commit store = list_any log_commits store.logs
 
 -- of the regions that the store may have, those whose own log has a commit
 abbrev pub joiners_of : Store → List ℕ

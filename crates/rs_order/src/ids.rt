@@ -1,10 +1,10 @@
-ghost use Rattle.std.specs.Prelude.{◌≡◌, ℕ, ◌+◌, ◌<◌, ◌≤◌, length, slice_index, [], map, OnOk, IfOk};
-ghost use Rattle.std.specs.List.{flat_map};
-ghost use Rattle.rs_order.specs.Stores.{insert_id, add_all, ids_in, ids_in_log, ids_of};
+//! Numbers in rising order, each once.
 
-use rs_entry::{Body, Boot, Entry, Log, Store};
+ghost use Rattle.std.specs.Prelude.{◌≡◌, ℕ, ◌+◌, ◌<◌, ◌≤◌, length, slice_index, [], map, OnOk};
+ghost use Rattle.rs_order.specs.Stores.{insert_id, add_all};
+
+use rs_entry::Boot;
 use rs_key::NoMemory;
-use std::alloc::Global;
 
 /// The first place whose number isn't below this one.
 fn place_of(ids: &[u64], id: u64) -> usize
@@ -20,6 +20,7 @@ fn place_of(ids: &[u64], id: u64) -> usize
     ids.len()
 }
 
+/// Puts a number among those that are there.
 fn insert_id(ids: &mut Vec<u64>, id: u64) -> Result<(), NoMemory>
     ensures { OnOk result (ids.new.items ≡ insert_id id ids.old.items) }
 {
@@ -35,7 +36,8 @@ fn insert_id(ids: &mut Vec<u64>, id: u64) -> Result<(), NoMemory>
     Ok(())
 }
 
-fn add_all(ids: &mut Vec<u64>, more: &[u64]) -> Result<(), NoMemory>
+/// Puts each of the numbers among those that are there.
+pub fn add_all(ids: &mut Vec<u64>, more: &[u64]) -> Result<(), NoMemory>
     ensures { OnOk result (ids.new.items ≡ add_all ids.old.items more.now) }
 {
     for id in more {
@@ -44,54 +46,12 @@ fn add_all(ids: &mut Vec<u64>, more: &[u64]) -> Result<(), NoMemory>
     Ok(())
 }
 
-fn add_boots(ids: &mut Vec<u64>, boots: &[Boot]) -> Result<(), NoMemory>
+/// Puts the regions that are there from the start among the others.
+pub fn add_boots(ids: &mut Vec<u64>, boots: &[Boot]) -> Result<(), NoMemory>
     ensures { OnOk result (ids.new.items ≡ add_all ids.old.items (map (λ b. b.region) boots.now)) }
 {
     for boot in boots {
         insert_id(ids, boot.region)?;
     }
     Ok(())
-}
-
-fn add_entry(ids: &mut Vec<u64>, entry: &Entry) -> Result<(), NoMemory>
-    ensures { OnOk result (ids.new.items ≡ add_all ids.old.items (ids_in entry.now.body)) }
-{
-    match &entry.body {
-        Body::Split { ids: made, .. } => add_all(ids, made.as_slice()),
-        _ => Ok(()),
-    }
-}
-
-fn add_entries(ids: &mut Vec<u64>, entries: &[Entry]) -> Result<(), NoMemory>
-    ensures { OnOk result (ids.new.items ≡ add_all ids.old.items (flat_map (λ e. ids_in e.body) entries.now)) }
-{
-    for entry in entries {
-        add_entry(ids, entry)?;
-    }
-    Ok(())
-}
-
-fn add_log(ids: &mut Vec<u64>, log: &Log) -> Result<(), NoMemory>
-    ensures { OnOk result (ids.new.items ≡ add_all ids.old.items (ids_in_log log.now)) }
-{
-    Ok(add_entries(ids, log.entries.as_slice())?)
-}
-
-fn add_logs(ids: &mut Vec<u64>, logs: &[Log]) -> Result<(), NoMemory>
-    ensures { OnOk result (ids.new.items ≡ add_all ids.old.items (flat_map ids_in_log logs.now)) }
-{
-    for log in logs {
-        add_log(ids, log)?;
-    }
-    Ok(())
-}
-
-/// The regions that a store may have, in rising order.
-pub fn ids_of(alloc: Global, store: &Store) -> Result<Vec<u64>, NoMemory>
-    ensures { IfOk result (λ ids. ids.items ≡ ids_of store.now) }
-{
-    let mut ids = Vec::new(alloc);
-    add_boots(&mut ids, store.regions.as_slice())?;
-    add_logs(&mut ids, store.logs.as_slice())?;
-    Ok(ids)
 }

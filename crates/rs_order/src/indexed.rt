@@ -3,10 +3,9 @@ ghost use Rattle.std.specs.List.{find};
 ghost use Rattle.std.specs.Option.{option_copied};
 ghost use Rattle.rs_order.specs.Stores.{own, ids_of};
 ghost use Rattle.rs_order.specs.Indexes.{AreRising, regions_of, log_ids};
-ghost use Rattle.rs_order.specs.Joiners.{joiners_of};
+ghost use Rattle.rs_order.specs.Joiners.{any_commit, joiners_of};
 ghost use Rattle.rs_order.specs.Rollbacks.{has_rollback};
 
-use crate::ids::ids_of;
 use crate::joiners::joiners_of;
 use crate::rollbacks::{Answer, Rollbacks, has_rollback, is_to};
 use rs_entry::{Entry, Log, Store};
@@ -39,12 +38,19 @@ impl<'a> Model for IndexedStore<'a> {
 }
 
 impl<'a> IndexedStore<'a> {
-    pub fn new(alloc: Global, store: &'a Store) -> Result<IndexedStore<'a>, NoMemory>
-        requires { AreRising (log_ids store.now) }
+    /// The store, with the regions that it may make, and whether its logs have a commit.
+    pub(crate) fn new(
+        alloc: Global,
+        store: &'a Store,
+        ids: Vec<u64>,
+        merges: bool,
+    ) -> Result<IndexedStore<'a>, NoMemory>
+        requires rising { AreRising (log_ids store.now) }
+        requires ids { ids.items ≡ ids_of store.now }
+        requires merges { merges ≡ any_commit store.now }
         ensures { IfOk result (λ indexed. indexed ≡ store.now) }
     {
-        let ids = ids_of(alloc, store)?;
-        let joiners = joiners_of(alloc, store, ids.as_slice())?;
+        let joiners = joiners_of(alloc, store, ids.as_slice(), merges)?;
         Ok(IndexedStore {
             store,
             ids,

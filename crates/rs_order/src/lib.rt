@@ -4,7 +4,6 @@
 //! when a region is ready, and what faults an order can meet.
 #![tactic(auto)]
 
-mod awaits;
 mod carriers;
 mod counts;
 mod cursor;
@@ -22,6 +21,7 @@ mod regions;
 mod rollbacks;
 mod run;
 mod step;
+mod survey;
 mod walk;
 
 pub use effect::Effect;

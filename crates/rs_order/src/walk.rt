@@ -1,11 +1,10 @@
-ghost use Rattle.std.specs.Prelude.{◌≡◌, ◌+◌, ◌<◌, ◌^◌, None, true, IfOk, IfSome, IfNone};
+ghost use Rattle.std.specs.Prelude.{◌≡◌, ◌+◌, ◌<◌, ◌^◌, None, true, false, IfOk, IfSome, IfNone};
 ghost use Rattle.std.specs.Option.{option_map};
 ghost use Rattle.rs_order.specs.Stores.{opening, ids_of, entries_in, is_ready, least_ready, step};
 ghost use Rattle.rs_order.specs.Runs.{seen, bare, forget, told, next_in, line_entry, IsFormedStore};
 ghost use Rattle.rs_order.specs.Formed.{IsFormedOne};
 ghost use Rattle.rs_order.specs.Walks.{IsWalk, Goes, Keeps, Leads, store_of, made_by, taken};
 
-use crate::awaits::awaited;
 use crate::carriers::Carriers;
 use crate::counts::entries_in;
 use crate::cursor::{is_calm, may_pass, may_stay, ready_from};
@@ -17,6 +16,7 @@ use crate::places::PlaceMap;
 use crate::regions::Regions;
 use crate::run::{Line, is_ready, look, next, stands};
 use crate::step::step;
+use crate::survey::Survey;
 use rs_entry::Store;
 use rs_key::NoMemory;
 use std::alloc::Global;
@@ -63,8 +63,12 @@ impl<'a> Walk<'a> {
         ensures made { IfOk result (λ w. made_by w ≡ (opening store.now).region) }
         ensures steps { IfOk result (λ w. w.steps ≡ 0) }
     {
-        let indexed = IndexedStore::new(alloc, store)?;
-        let awaited = awaited(alloc, store)?;
+        let Survey {
+            ids,
+            awaited,
+            merges,
+        } = Survey::of(alloc, store)?;
+        let indexed = IndexedStore::new(alloc, store, ids, merges)?;
         let regions = opening(alloc, &indexed)?;
         let standing = Carriers::of(alloc, &indexed, &regions)?;
         Ok(Walk {
@@ -127,12 +131,31 @@ impl<'a> Walk<'a> {
         ensures store { IfOk result (λ _. store_of self.new ≡ store_of self.old) }
         ensures steps { IfOk result (λ _. self.new.steps ≡ self.old.steps + 1) }
     {
-        if may_pass(&self.indexed, &self.awaited, &self.regions, id) {
-            self.steps += 1;
-            self.regions.pass(id);
+        if self.pass_next(id) {
             return Ok(None);
         }
         self.apply_next(alloc, id)
+    }
+
+    /// Passes the region's next entry where that is one of its own log and changes nothing for others. Otherwise nothing
+    /// has changed.
+    fn pass_next(&mut self, id: u64) -> bool
+        requires walk { IsWalk self.old }
+        requires few { self.old.steps < 2 ^ 50 }
+        requires formed { IsFormedStore (store_of self.old) }
+        requires ready { is_ready (store_of self.old) (bare (made_by self.old)) id ≡ true }
+        ensures step { result ≡ true → forget (step (store_of self.old) (bare (made_by self.old)) id) ≡ told None (made_by self.new) }
+        ensures walk { result ≡ true → IsWalk self.new }
+        ensures steps { result ≡ true → self.new.steps ≡ self.old.steps + 1 }
+        ensures store { store_of self.new ≡ store_of self.old }
+        ensures kept { result ≡ false → self.new ≡ self.old }
+    {
+        if !may_pass(&self.indexed, &self.awaited, &self.regions, id) {
+            return false;
+        }
+        self.steps += 1;
+        self.regions.pass(id);
+        true
     }
 
     /// The same where the entry isn't passed.

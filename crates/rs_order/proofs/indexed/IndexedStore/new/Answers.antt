@@ -7,8 +7,8 @@ use Rattle.rs_order.proofs.indexed.IndexedStore.new.Goals as goal
 
 pub invariant_of-result : goal.invariant_of-result
 invariant_of-result c = record {
-  all_ids = c.in_ok-ids.ensures;
-  all_joiners = c.in_ok-joiners.ensures ∙ ap (filter (has_commit c.args.store.now)) (c.as_slice.ensures.value ∙ c.in_ok-ids.ensures);
-  rising = c.requires;
+  all_ids = c.requires.ids;
+  all_joiners = c.in_ok-joiners.ensures ∙ ap (filter (has_commit c.args.store.now)) (c.as_slice.ensures.value ∙ c.requires.ids);
+  rising = c.requires.rising;
   answered = subst (AreTrue c.args.store.now) (sym c.new.ensures) (none_true c.args.store.now);
 }

@@ -13,5 +13,5 @@ returns-clause-walk c = record {
   low = subst (IsWithin 5) (sym c.in_ok-regions.ensures) (opening_near c.in_ok-indexed.indexed);
   before = λ k h l. absurd (omega arith);
   standing = c.in_ok-standing.ensures;
-  awaited = subst (λ (s : Store). HasMerges s (known c.in_ok-awaited.awaited)) (sym c.in_ok-indexed.ensures) c.in_ok-awaited.ensures;
+  awaited = subst (λ (s : Store). HasMerges s (known c.in_ok-ids.field-0.awaited)) (sym c.in_ok-indexed.ensures) c.in_ok-ids.ensures.awaited;
 }

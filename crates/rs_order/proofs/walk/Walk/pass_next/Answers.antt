@@ -4,17 +4,17 @@ use Rattle.rs_order.specs.Places.{known}
 use Rattle.rs_order.specs.Runs.{Moved, bare, seen}
 use Rattle.rs_order.specs.Stores.{ByRegion, stands}
 use Rattle.rs_order.proofs.Passing.{calm_walk, pass_calm, pass_lone, pass_step}
-use Rattle.rs_order.proofs.walk.Walk.step.Goals as goal
+use Rattle.rs_order.proofs.walk.Walk.pass_next.Goals as goal
 
-pub returns-then-may_pass-clause-step : goal.returns-then-may_pass-clause-step
-returns-then-may_pass-clause-step c =
-    let may = c.may_pass.ensures c.if-may_pass.true in
+pub returns-clause-step : goal.returns-clause-step
+returns-clause-step c = λ passed.
+    let may = c.may_pass.ensures c.if-not-may_pass.false in
     pass_step c.args.self.now.indexed (known c.args.self.now.awaited) (seen c.args.self.now.regions) c.args.id may
     ∙ ap Moved (sym (c.pass.ensures may.made may.here))
 
-pub returns-then-may_pass-clause-walk : goal.returns-then-may_pass-clause-walk
-returns-then-may_pass-clause-walk c = λ ok.
-    let may = c.may_pass.ensures c.if-may_pass.true in
+pub returns-clause-walk : goal.returns-clause-walk
+returns-clause-walk c = λ passed.
+    let may = c.may_pass.ensures c.if-not-may_pass.false in
     let w = c.args.self.now in
     let f = seen w.regions in
     let now = c.pass.ensures may.made may.here in
