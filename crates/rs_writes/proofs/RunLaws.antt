@@ -1,7 +1,7 @@
 -- What the front run of sorted writes makes, write by write.
-use Rattle.std.proofs.Common.{◌≡◌, ◌∙◌, sym, refl, ap, ℕ, List, [], ◌∷◌, ◌++◌, subst, Bool, true, false, length, drop, ◌<◌, ◌+◌, get_or}
+use Rattle.std.proofs.Common.{◌≡◌, ◌∙◌, sym, refl, ap, ℕ, List, [], ◌∷◌, ◌++◌, subst, Bool, true, false, length, map, take, drop, ◌<◌, ◌+◌, get_or}
 use Rattle.std.specs.Prelude.{if◌then◌else◌}
-use Rattle.std.proofs.lemmas.List.{append_assoc, drop_more}
+use Rattle.std.proofs.lemmas.List.{append_assoc, drop_more, map-append, take_more}
 use Rattle.rs_key.specs.Keys.{same_bytes}
 use Rattle.rs_key.proofs.RangeLaws.{same_bytes_is}
 use Rattle.rs_entry.specs.declared.outcome.Item.{Item}
@@ -52,22 +52,24 @@ run_ends key items w (h ∷ hs) s = by_test (same_bytes w.key h.key) refl where
 cut_at : (ws : List Wrote) (i : ℕ) (w : Wrote) → i < length ws → w ≡ get_or ws i w → drop i ws ≡ w ∷ drop (i + 1) ws
 cut_at ws i w there is = drop_more ws i w there ∙ ap (λ (v : Wrote). v ∷ drop (i + 1) ws) (sym is)
 
+items_more : (ws : List Wrote) (i : ℕ) (w : Wrote) → i < length ws → w ≡ get_or ws i w → map item_of (take (i + 1) ws) ≡ map item_of (take i ws) ++ item_of w ∷ []
+items_more ws i w there is = ap (map item_of) (take_more ws i w there) ∙ map-append item_of (take i ws) (get_or ws i w ∷ []) ∙ ap (λ (v : Wrote). map item_of (take i ws) ++ item_of v ∷ []) (sym is)
+
+-- the first so many writes, of this key, make the front of the histories
+abbrev pub Leads : List ℕ → List Wrote → ℕ → Type 0
+Leads key ws i = put_front key (map item_of (take i ws)) (groups (drop i ws)) ≡ groups ws
+
 -- the run goes on by one write
-pub goes_on : (key : List ℕ) (items longer : List Item) (item : Item) (ws : List Wrote) (i : ℕ) (w : Wrote) (gs : List KeyHistory)
-    → i < length ws → w ≡ get_or ws i w → same_bytes key w.key ≡ true → item ≡ item_of w → longer ≡ items ++ item ∷ []
-    → put_front key items (groups (drop i ws)) ≡ gs → put_front key longer (groups (drop (i + 1) ws)) ≡ gs
-goes_on key items longer item ws i w gs there is s e f h =
-    ap (λ (l : List Item). put_front key l (groups (drop (i + 1) ws))) (f ∙ ap (λ (x : Item). items ++ x ∷ []) e)
-    ∙ sym (one_more key items w (groups (drop (i + 1) ws)) s) ∙ ap (λ (l : List Wrote). put_front key items (groups l)) (sym (cut_at ws i w there is)) ∙ h
+pub goes_on : (key : List ℕ) (ws : List Wrote) (i : ℕ) (w : Wrote) → i < length ws → w ≡ get_or ws i w → same_bytes key w.key ≡ true → Leads key ws i → Leads key ws (i + 1)
+goes_on key ws i w there is s h =
+    let rest : List KeyHistory = groups (drop (i + 1) ws) in
+    ap (λ (l : List Item). put_front key l rest) (items_more ws i w there is)
+    ∙ sym (one_more key (map item_of (take i ws)) w rest s) ∙ ap (λ (l : List Wrote). put_front key (map item_of (take i ws)) (groups l)) (sym (cut_at ws i w there is)) ∙ h
 
 -- the run ends before a write of another key
-pub ends_before : (key : List ℕ) (items : List Item) (h : KeyHistory) (ws : List Wrote) (i : ℕ) (w : Wrote) (gs : List KeyHistory)
-    → i < length ws → w ≡ get_or ws i w → same_bytes key w.key ≡ false → length items ≡ i → h ≡ record { key = key; items = items }
-    → put_front key items (groups (drop i ws)) ≡ gs → gs ≡ h ∷ groups (drop (length h.items) ws)
-ends_before key items h ws i w gs there is s count made so_far =
+pub ends_before : (key : List ℕ) (ws : List Wrote) (i : ℕ) (w : Wrote) → i < length ws → w ≡ get_or ws i w → same_bytes key w.key ≡ false → Leads key ws i
+    → groups ws ≡ record { key = key; items = map item_of (take i ws) } ∷ groups (drop i ws)
+ends_before key ws i w there is s h =
     let cut = cut_at ws i w there is in
-    let run : KeyHistory = record { key = key; items = items } in
-    let whole : gs ≡ run ∷ groups (drop i ws) =
-    sym so_far ∙ ap (λ (l : List Wrote). put_front key items (groups l)) cut ∙ run_ends key items w (groups (drop (i + 1) ws)) s ∙ ap (λ (l : List Wrote). run ∷ groups l) (sym cut) in
-    let P : KeyHistory → Type 0 = λ k. gs ≡ k ∷ groups (drop (length k.items) ws) in
-    subst P (sym made) (whole ∙ ap (λ (n : ℕ). run ∷ groups (drop n ws)) (sym count))
+    let run : KeyHistory = record { key = key; items = map item_of (take i ws) } in
+    sym h ∙ ap (λ (l : List Wrote). put_front key run.items (groups l)) cut ∙ run_ends key run.items w (groups (drop (i + 1) ws)) s ∙ ap (λ (l : List Wrote). run ∷ groups l) (sym cut)

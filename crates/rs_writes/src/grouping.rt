@@ -30,24 +30,35 @@ fn first_run(alloc: Global, writes: &[AcceptedWrite<'_>]) -> Result<KeyHistory, 
     ensures value { IfOk result (λ h. groups writes.now ≡ h ∷ groups (drop (length h.items) writes.now)) }
 {
     let first = &writes[0];
-    let mut items = Rows::with_room(alloc, 1);
-    items.push(first.item()?)?;
-    for place in 1..writes.len() {
-        let write = &writes[place];
-        if !first.has_key_of(write) {
-            return Ok(history(first, items)?);
-        }
-        items.push(write.item()?)?;
-    }
-    Ok(history(first, items)?)
-}
-
-/// The history of the key of a write.
-fn history(first: &AcceptedWrite<'_>, items: Rows<Item>) -> Result<KeyHistory, NoMemory>
-    ensures { IfOk result (λ h. h ≡ record { key = first.now.key; items = items }) }
-{
+    let (run, _) = writes.split_at(run_length(first, writes));
     Ok(KeyHistory {
         key: first.key().try_clone()?,
-        items,
+        items: items_of(alloc, run)?,
     })
+}
+
+/// How many writes at the front are of the first one's key.
+fn run_length(first: &AcceptedWrite<'_>, writes: &[AcceptedWrite<'_>]) -> usize
+    requires { slice_get writes.now 0 ≡ Some first.now }
+    ensures some { 0 < result }
+    ensures within { result ≤ length writes.now }
+    ensures value { groups writes.now ≡ record { key = first.now.key; items = map item_of (take result writes.now) } ∷ groups (drop result writes.now) }
+{
+    for place in 1..writes.len() {
+        if !first.has_key_of(&writes[place]) {
+            return place;
+        }
+    }
+    writes.len()
+}
+
+/// What the histories have of the writes.
+fn items_of(alloc: Global, writes: &[AcceptedWrite<'_>]) -> Result<Rows<Item>, NoMemory>
+    ensures { IfOk result (λ items. items ≡ map item_of writes.now) }
+{
+    let mut items = Rows::with_room(alloc, writes.len());
+    for write in writes {
+        items.push(write.item()?)?;
+    }
+    Ok(items)
 }

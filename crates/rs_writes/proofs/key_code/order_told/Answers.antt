@@ -1,4 +1,4 @@
-use Rattle.std.proofs.Common.{arith, sym, ◌∙◌, ◌≡◌, rules}
+use Rattle.std.proofs.Common.{arith, sym, ◌∙◌, ◌≡◌}
 use Rattle.rs_writes.proofs.CodeOrder.{code_below, code_above, code_tie}
 use Rattle.rs_writes.proofs.key_code.order_told.Goals as goal
 
