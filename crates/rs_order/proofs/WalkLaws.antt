@@ -20,7 +20,8 @@ use Rattle.rs_order.specs.Runs.{Moved, Failed, bare, forget}
 use Rattle.rs_order.specs.declared.carriers.Carriers.{Carriers}
 use Rattle.rs_order.specs.declared.places.PlaceMap.{PlaceMap}
 use Rattle.rs_order.specs.declared.regions.Regions.{Regions}
-use Rattle.rs_order.specs.Walks.{Goes, IsWalk, Leads, Tells, gained}
+use Rattle.rs_order.specs.declared.walk.Walk.{Walk}
+use Rattle.rs_order.specs.Walks.{Goes, IsWalk, Leads, Tells, gained, made_by, store_of}
 use Rattle.rs_order.proofs.Orders.{next_same, least_same}
 
 -- a step, on top of these writes and replies
@@ -125,3 +126,7 @@ goes_leads store old new s is (Ok (advances.Took t)) goes = is ∙ goes
 goes_leads store old new s is (Ok advances.Rests) goes = absurd goes
 goes_leads store old new s is (Ok (advances.Broke fault)) goes = is ∙ goes
 goes_leads store old new s is (Err e) goes = tt
+
+-- equal walks take the same step
+pub same_step : {v w : Walk} (id : ℕ) → v ≡ w → step (store_of v) (bare (made_by v)) id ≡ step (store_of w) (bare (made_by w)) id
+same_step {v = v} {w = w} id e = ap (λ (u : Walk). step (store_of u) (bare (made_by u)) id) e

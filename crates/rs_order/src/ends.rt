@@ -109,7 +109,10 @@ fn walk_on(alloc: Global, walk: &mut Walk<'_>, count: usize) -> Result<Option<St
         let Some(id) = walk.least_ready() else {
             return Ok(None);
         };
-        match walk.step(alloc, id)? {
+        if walk.pass_next(id) {
+            continue;
+        }
+        match walk.apply_next(alloc, id)? {
             None => {}
             Some(fault) => return Ok(Some(fault)),
         }

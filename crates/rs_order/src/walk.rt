@@ -120,26 +120,9 @@ impl<'a> Walk<'a> {
         next(&self.indexed, &self.standing, &self.regions, id, made)
     }
 
-    /// The next entry of the region, which is ready, applied. After NoMemory the walk can't go on.
-    pub fn step(&mut self, alloc: Global, id: u64) -> Result<Option<StepFault>, NoMemory>
-        requires walk { IsWalk self.old }
-        requires few { self.old.steps < 2 ^ 50 }
-        requires formed { IsFormedStore (store_of self.old) }
-        requires ready { is_ready (store_of self.old) (bare (made_by self.old)) id ≡ true }
-        ensures step { IfOk result (λ fault. forget (step (store_of self.old) (bare (made_by self.old)) id) ≡ told fault (made_by self.new)) }
-        ensures walk { IfOk result (λ fault. fault ≡ None → IsWalk self.new) }
-        ensures store { IfOk result (λ _. store_of self.new ≡ store_of self.old) }
-        ensures steps { IfOk result (λ _. self.new.steps ≡ self.old.steps + 1) }
-    {
-        if self.pass_next(id) {
-            return Ok(None);
-        }
-        self.apply_next(alloc, id)
-    }
-
     /// Passes the region's next entry where that is one of its own log and changes nothing for others. Otherwise nothing
     /// has changed.
-    fn pass_next(&mut self, id: u64) -> bool
+    pub(crate) fn pass_next(&mut self, id: u64) -> bool
         requires walk { IsWalk self.old }
         requires few { self.old.steps < 2 ^ 50 }
         requires formed { IsFormedStore (store_of self.old) }
@@ -158,8 +141,12 @@ impl<'a> Walk<'a> {
         true
     }
 
-    /// The same where the entry isn't passed.
-    fn apply_next(&mut self, alloc: Global, id: u64) -> Result<Option<StepFault>, NoMemory>
+    /// The next entry of the region, which is ready, applied. After NoMemory the walk can't go on.
+    pub(crate) fn apply_next(
+        &mut self,
+        alloc: Global,
+        id: u64,
+    ) -> Result<Option<StepFault>, NoMemory>
         requires walk { IsWalk self.old }
         requires few { self.old.steps < 2 ^ 50 }
         requires formed { IsFormedStore (store_of self.old) }
@@ -230,7 +217,10 @@ impl<'a> Walk<'a> {
         ensures goes { IfOk result (λ a. Goes (step (store_of self.old) (bare (made_by self.old)) id) (made_by self.new) a) }
     {
         let effect = effect_of(&self.indexed, &self.standing, &self.regions, id)?;
-        match self.step(alloc, id)? {
+        if self.pass_next(id) {
+            return Ok(Advance::Took(effect));
+        }
+        match self.apply_next(alloc, id)? {
             None => Ok(Advance::Took(effect)),
             Some(fault) => Ok(Advance::Broke(fault)),
         }
