@@ -2,24 +2,28 @@
 use Rattle.std.specs.Prelude.{ℕ, zero, suc, List, [], ◌∷◌, ◌+◌, ◌*◌, ◌<◌, nat_lt, length, slice_index, if◌then◌else◌}
 use Rattle.std.specs.List.{AllByRecursion}
 
--- how many numbers of at most n digits there are; a digit is a byte, or missing
+-- how many numbers of at most n bytes there are
 abbrev pub places : ℕ → ℕ
 places zero = 1
-places (suc n) = 257 * places n
+places (suc n) = 256 * places n
 
--- the first n bytes as a number whose order is theirs; a missing byte counts 0
+-- the first n bytes as a number, 0 for each that is missing
 abbrev pub digits : ℕ → List ℕ → ℕ
 digits zero xs = 0
 digits (suc n) [] = 0
-digits (suc n) (x ∷ xs) = (x + 1) * places n + digits n xs
+digits (suc n) (x ∷ xs) = x * places n + digits n xs
 
--- the first 15 bytes, and whether there are more
+-- the length of a key, 16 where it is more
+abbrev pub told_length : List ℕ → ℕ
+told_length key = if nat_lt 15 (length key) then 16 else length key
+
+-- the first 15 bytes, and then the length
 abbrev pub code : List ℕ → ℕ
-code key = 2 * digits 15 key + (if nat_lt 15 (length key) then 1 else 0)
+code key = 256 * digits 15 key + told_length key
 
 abbrev pub AreBytes : List ℕ → Type 0
 AreBytes xs = AllByRecursion (λ b. b < 256) xs
 
--- one more than the byte at a place, 0 where there is none
-abbrev pub digit_at : List ℕ → ℕ → ℕ
-digit_at xs i = if nat_lt i (length xs) then slice_index xs i + 1 else 0
+-- the byte at a place, 0 where there is none
+abbrev pub byte_at : List ℕ → ℕ → ℕ
+byte_at xs i = if nat_lt i (length xs) then slice_index xs i else 0

@@ -14,17 +14,22 @@ use rs_key::{Key, NoMemory, TryClone};
 use std::cmp::Ordering;
 use std::marker::Model;
 
-/// One accepted operation of an entry, with the code of its key. Contracts see the write.
+/// How many values the lower half of a code has.
+const HALF: u128 = 1 << 64;
+
+/// One accepted operation of an entry, with the code of its key in two halves, so that it has 40 bytes. Contracts see
+/// the write.
 #[derive(Drop)]
 pub struct AcceptedWrite<'a> {
-    rank: u128,
+    high: u64,
+    low: u64,
     region: u64,
     index: u64,
     op: &'a Op,
 }
 
 impl<'a> Model for AcceptedWrite<'a> {
-    ghost use Rattle.std.specs.Prelude.{◌≡◌};
+    ghost use Rattle.std.specs.Prelude.{◌≡◌, ◌+◌, ◌*◌, ◌^◌};
     ghost use Rattle.rs_entry.specs.Entries.{key_of};
     ghost use Rattle.rs_writes.specs.KeyCodes.{AreBytes, code};
     ghost use Rattle.rs_order.specs.Stores.{Wrote, wrote};
@@ -33,15 +38,17 @@ impl<'a> Model for AcceptedWrite<'a> {
 
     ghost view = { λ a. wrote a.region a.index a.op.now };
 
-    ghost invariant = { λ a. (a.rank ≡ code (key_of a.op.now)) × AreBytes (key_of a.op.now) };
+    ghost invariant = { λ a. (a.high * 2 ^ 64 + a.low ≡ code (key_of a.op.now)) × AreBytes (key_of a.op.now) };
 }
 
 impl<'a> AcceptedWrite<'a> {
     pub fn new(region: u64, index: u64, op: &'a Op) -> AcceptedWrite<'a>
         ensures { result ≡ wrote region index op.now }
     {
+        let code = code_of(op_key(op).as_bytes());
         AcceptedWrite {
-            rank: code_of(op_key(op).as_bytes()),
+            high: (code / HALF) as u64,
+            low: (code % HALF) as u64,
             region,
             index,
             op,
@@ -74,7 +81,8 @@ impl<'a> AcceptedWrite<'a> {
         ensures { result ≡ self.now }
     {
         AcceptedWrite {
-            rank: self.rank,
+            high: self.high,
+            low: self.low,
             region: self.region,
             index: self.index,
             op: self.op,
@@ -95,17 +103,25 @@ impl<'a> AcceptedWrite<'a> {
         requires bytes { AreBytes key.now }
         ensures { result ≡ is_below key.now self.now }
     {
-        match order_told(self.rank, at) {
+        match order_told(self.code(), at) {
             Some(order) => order.is_lt(),
             None => op_key(self.op) < key,
         }
+    }
+
+    /// The code of the key.
+    fn code(&self) -> u128
+        ensures code { result ≡ code self.now.key }
+        ensures bytes { AreBytes self.now.key }
+    {
+        u128::from(self.high) * HALF + u128::from(self.low)
     }
 
     /// The order of the keys.
     pub fn compare(&self, other: &AcceptedWrite<'_>) -> Ordering
         ensures { result ≡ slice_cmp nat_cmp self.now.key other.now.key }
     {
-        match order_told(self.rank, other.rank) {
+        match order_told(self.code(), other.code()) {
             Some(order) => order,
             None => op_key(self.op).cmp(op_key(other.op)),
         }

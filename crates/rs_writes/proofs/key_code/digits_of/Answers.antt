@@ -12,4 +12,4 @@ overflow_add-number c =
 
 pub loop-place-preserved : goal.loop-place-preserved
 loop-place-preserved c =
-    rw c.digit_at.ensures.value (makes_more 15 c.args.key.now c.loop-place.place c.loop-place.number (omega arith) (rw c.digit_at.ensures.value at c.digit_at.ensures.bound) c.loop-place.invariant)
+    rw c.byte_at.ensures.value (makes_more 15 c.args.key.now c.loop-place.place c.loop-place.number (omega arith) (rw c.byte_at.ensures.value at c.byte_at.ensures.bound) c.loop-place.invariant)
