@@ -1,14 +1,12 @@
 -- Pairs of digits, one after the other, as a loop reads them.
-use Rattle.std.proofs.Common.{◌≡◌, ℕ, ◌+◌, ◌*◌, ◌%◌, ◌<◌, ◌≤◌, List, [], ◌∷◌, ◌++◌, length, drop, slice_index, Option, Some, None, Result, Ok, Err, unwrap_or, refl, ap, ◌∙◌, arith}
+use Rattle.std.proofs.Common.{◌≡◌, ℕ, ◌+◌, ◌*◌, ◌%◌, ◌<◌, ◌≤◌, List, [], ◌∷◌, ◌++◌, length, drop, slice_index, Option, Some, None, Result, Ok, Err, unwrap_or, refl, ap, ◌∙◌, arith, inl, inr}
 use Rattle.std.specs.Prelude.{IsErr}
+use Rattle.std.proofs.lemmas.Bool.{cases_lt}
 use Rattle.std.proofs.lemmas.List.{append-nil, drop_all}
 use Rattle.hex.specs.Hex.{decode_of, decode_pairs, pair_value, hex_digit_value, digit_or_error, ◌>>=◌}
 use Rattle.hex.specs.declared.error.FromHexError.{FromHexError}
+use Rattle.rs_field.specs.Digits.{Reads}
 use Rattle.hex.proofs.Pairs.{prepend, cons_byte, prepend-cons_byte, drop-pair, decode_pairs-ok_pair}
-
--- what is read so far, then the rest, gives the whole
-abbrev pub Reads : List ℕ → List ℕ → ℕ → Type 0
-Reads s out i = decode_pairs 0 s ≡ prepend out (decode_pairs (2 * i) (drop (2 * i) s))
 
 low_some : (o : Option ℕ) → unwrap_or o 255 ≤ 15 → o ≡ Some (unwrap_or o 255)
 low_some (Some v) h = refl
@@ -74,3 +72,31 @@ goes_on s out i high low fits eh el h l inv =
 pub is_done : (s out : List ℕ) (i : ℕ) → length s ≤ 2 * i → Reads s out i → decode_pairs 0 s ≡ Ok out
 unfolding decode_pairs
 is_done s out i fits inv = inv ∙ ap (prepend out) (ap (decode_pairs (2 * i)) (drop_all (2 * i) s fits)) ∙ ap Ok (append-nil out)
+
+-- all digits so far are good, or one was none, by the greatest of their values
+pub record Told (s out : List ℕ) (i greatest : ℕ) : Type 0 where
+  pub good : greatest ≤ 15 → Reads s out i
+  pub bad : 15 < greatest → IsErr (decode_pairs 0 s)
+
+-- one byte more
+pub tells_on : (s out : List ℕ) (i high low before after : ℕ) → 2 * i + 1 < length s
+    → high ≡ unwrap_or (hex_digit_value (slice_index s (2 * i))) 255 → low ≡ unwrap_or (hex_digit_value (slice_index s (2 * i + 1))) 255
+    → (before ≤ after) × (high ≤ after) × (low ≤ after) → ((n : ℕ) → before ≤ n → high ≤ n → low ≤ n → after ≤ n)
+    → Told s out i before → Told s (out ++ (high % 16 * 16 + low % 16) ∷ []) (i + 1) after
+tells_on s out i high low before after fits eh el above least told = record {
+  good = λ h.
+      let a : high ≤ 15 = omega (arith, h, above) in
+      let b : low ≤ 15 = omega (arith, h, above) in
+      let c : high % 16 * 16 + low % 16 ≡ high * 16 + low = omega (arith, a, b) in
+      rw c (goes_on s out i high low fits eh el a b (told.good (omega (arith, h, above))));
+  bad = λ h. elim (cases_lt 15 before) [
+    | inl bad ↦ told.bad bad
+    | inr good ↦ elim (cases_lt 15 high) [
+      | inl none ↦ stops_first s out i high fits eh none (told.good good)
+      | inr first ↦ elim (cases_lt 15 low) [
+        | inl none ↦ stops_second s out i high low fits eh el first none (told.good good)
+        | inr second ↦ absurd (let l = least 15 good first second in omega (arith, h, l))
+      ]
+    ]
+  ];
+}

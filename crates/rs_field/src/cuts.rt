@@ -5,10 +5,7 @@ ghost use Rattle.std.specs.List.{position_or_len, list_any};
 ghost use Rattle.rs_field.specs.Lines.{parts_of, fields_of};
 
 /// How many bytes are looked at together.
-const BLOCK: usize = 32;
-
-/// How long a field is before it is looked through in blocks.
-const SHORT: usize = 64;
+const BLOCK: usize = 16;
 
 /// Whether the byte is among these. All of them are looked at, so that a processor can compare many at once.
 fn has(block: &[u8], byte: u8) -> bool
@@ -50,23 +47,6 @@ fn place_of(bytes: &[u8], byte: u8) -> usize
     bytes.len()
 }
 
-/// Where the first space stands, or the length where there is none.
-fn field_end(bytes: &[u8]) -> usize
-    ensures place { result ≡ position_or_len (λ b. b == 32) bytes.now }
-    ensures bound { result ≤ length bytes.now }
-{
-    let near = bytes.len().min(SHORT);
-    for i in 0..near {
-        if bytes[i] == b' ' {
-            return i;
-        }
-    }
-    if near == bytes.len() {
-        return near;
-    }
-    place_of(bytes, b' ')
-}
-
 /// How many spaces stand at the front.
 fn spaces_of(bytes: &[u8]) -> usize
     ensures place { result ≡ position_or_len (λ b. not (b == 32)) bytes.now }
@@ -88,7 +68,7 @@ pub fn next_field(line: &[u8]) -> Option<(&[u8], &[u8])>
     if rest.is_empty() {
         return None;
     }
-    let (field, after) = rest.split_at(field_end(rest));
+    let (field, after) = rest.split_at(place_of(rest, b' '));
     Some((field, after))
 }
 

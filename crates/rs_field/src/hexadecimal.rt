@@ -1,11 +1,12 @@
 //! Fields in hexadecimal digits.
 //!
-//! They mean what the crate `hex` says they do. Digits are read by a table, since a branch on each, as that crate has
-//! it, is often guessed wrongly. They are written without the table that that crate has: a loop that only compares and
-//! adds can be compiled to work on many bytes at once.
+//! They mean what the crate `hex` says they do. Digits of short fields are read by a table, since a branch on each, as
+//! that crate has it, is often guessed wrongly. Those of long fields are read, and all are written, by loops that only
+//! compare and add, which can be compiled to work on many bytes at once.
 
-ghost use Rattle.std.specs.Prelude.{◌≡◌, ◌≤◌, ◌<◌, ◌*◌, ◌%◌, IfOk, IsErrOf, IsErr, Ok, MatchBool, MatchOption, length, slice_index, unwrap_or};
+ghost use Rattle.std.specs.Prelude.{◌≡◌, ◌≤◌, ◌<◌, ◌*◌, ◌+◌, ◌%◌, ℕ, IfOk, IsErrOf, IsErr, Ok, MatchBool, MatchOption, length, slice_index, take, unwrap_or};
 ghost use Rattle.hex.specs.Hex.{decode_of, encode_lower, hex_digit_value, lower_digits};
+ghost use Rattle.rs_field.specs.Digits.{Reads};
 ghost use Rattle.rs_field.specs.Fields.{hex_of};
 ghost use Rattle.rs_field.specs.Gives.{Decodes, Gives};
 
@@ -69,13 +70,15 @@ fn digit(byte: u8) -> u8
     at(VALUES, byte)
 }
 
-/// Puts what an even number of hexadecimal digits spells into the room, which has half as many places; false
-/// where a byte is no digit.
-fn decode_into(field: &[u8], room: &mut [u8]) -> bool
-    requires { length field.now ≡ 2 * length room.old }
+/// Puts what the digits from a place on spell into the room, which has half as many places; false where a byte is no
+/// digit. Those before the place are read.
+fn decode_from(field: &[u8], start: usize, room: &mut [u8]) -> bool
+    requires twice { length field.now ≡ 2 * length room.old }
+    requires within { start ≤ length room.old }
+    requires so_far { Reads field.now (take start room.old) start }
     ensures { MatchBool result (decode_of field.now ≡ Ok room.new) (IsErr (decode_of field.now)) }
 {
-    for i in 0..room.len() {
+    for i in start..room.len() {
         let high = digit(field[2 * i]);
         let low = digit(field[2 * i + 1]);
         if high > 15 {
@@ -89,6 +92,75 @@ fn decode_into(field: &[u8], room: &mut [u8]) -> bool
     true
 }
 
+/// How many bytes are read at once from a long field.
+const BLOCK: usize = 16;
+
+/// The value of a digit, or 255, by comparisons alone.
+fn compared(byte: u8) -> u8
+    ensures { result ≡ unwrap_or (hex_digit_value byte) 255 }
+{
+    let decimal = if b'0' <= byte && byte <= b'9' {
+        byte - b'0'
+    } else {
+        255
+    };
+    let upper = if b'A' <= byte && byte <= b'F' {
+        byte - b'A' + 10
+    } else {
+        decimal
+    };
+    if b'a' <= byte && byte <= b'f' {
+        byte - b'a' + 10
+    } else {
+        upper
+    }
+}
+
+/// The greatest of three values.
+fn greatest_of(a: u8, b: u8, c: u8) -> u8
+    ensures above { (a ≤ result) × (b ≤ result) × (c ≤ result) }
+    ensures least { (n : ℕ) → a ≤ n → b ≤ n → c ≤ n → result ≤ n }
+{
+    let greater = if a < b { b } else { a };
+    if greater < c { c } else { greater }
+}
+
+/// Puts what the digits of a block spell into the room, from a place on; false where a byte is no digit. Those before
+/// the place are read.
+fn decode_block(field: &[u8], start: usize, room: &mut [u8]) -> bool
+    requires twice { length field.now ≡ 2 * length room.old }
+    requires within { start + 16 ≤ length room.old }
+    requires so_far { Reads field.now (take start room.old) start }
+    ensures sized { length room.new ≡ length room.old }
+    ensures read { MatchBool result (Reads field.now (take (start + 16) room.new) (start + 16)) (IsErr (decode_of field.now)) }
+{
+    let mut greatest = 0;
+    for offset in 0..BLOCK {
+        let i = start + offset;
+        let high = compared(field[2 * i]);
+        let low = compared(field[2 * i + 1]);
+        room[i] = high % 16 * 16 + low % 16;
+        greatest = greatest_of(greatest, high, low);
+    }
+    greatest <= 15
+}
+
+/// Puts what an even number of digits spells into the room, which has half as many places; false where a byte is no
+/// digit. Whole blocks are read at once.
+fn decode_into(field: &[u8], room: &mut [u8]) -> bool
+    requires { length field.now ≡ 2 * length room.old }
+    ensures { MatchBool result (decode_of field.now ≡ Ok room.new) (IsErr (decode_of field.now)) }
+{
+    let mut done = 0;
+    while room.len() - done >= BLOCK {
+        if !decode_block(field, done, room) {
+            return false;
+        }
+        done += BLOCK;
+    }
+    decode_from(field, done, room)
+}
+
 /// The bytes that up to 44 digits spell, an even number of them; none where a byte is no digit. They take no
 /// memory.
 fn decode_short(field: &[u8]) -> Option<Bytes>
@@ -98,7 +170,7 @@ fn decode_short(field: &[u8]) -> Option<Bytes>
 {
     let count = field.len() / 2;
     let mut array = [0; Bytes::SHORT];
-    if decode_into(field, &mut array[..count]) {
+    if decode_from(field, 0, &mut array[..count]) {
         Some(Bytes::from_array(array, count))
     } else {
         None

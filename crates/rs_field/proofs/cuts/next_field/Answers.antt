@@ -18,4 +18,4 @@ returns c =
     let r = take_rest line c.spaces_of.result in
     let some : 0 < length (drop c.spaces_of.result line) = omega (arith, rw r at (eqb-false _ _ (sym c.is_empty.ensures ∙ c.if-is_empty.false))) in
     rw (c.split_at.ensures.front, c.split_at.ensures.back, r)
-    (field_after line (drop c.spaces_of.result line) c.field_end.result (ap (λ n. drop n line) c.spaces_of.ensures.place) some (rw r at c.field_end.ensures.place))
+    (field_after line (drop c.spaces_of.result line) c.place_of.result (ap (λ n. drop n line) c.spaces_of.ensures.place) some (rw r at c.place_of.ensures.place))

@@ -1,7 +1,7 @@
 use Rattle.std.proofs.Common.{◌∙◌, ◌+◌, ◌*◌, ap, Ok, arith, rules, take}
 use Rattle.std.proofs.lemmas.List.{take_all, take_more_set}
 use Rattle.rs_field.proofs.DigitPairs.{goes_on, is_done, stops_first, stops_second, even}
-use Rattle.rs_field.proofs.hexadecimal.decode_into.Goals as goal
+use Rattle.rs_field.proofs.hexadecimal.decode_from.Goals as goal
 
 pub returns-then-high-gt15 : goal.returns-then-high-gt15
 returns-then-high-gt15 c =
