@@ -14,8 +14,6 @@ mod opening;
 mod peer_handler;
 mod seat;
 mod sending;
-#[cfg(test)]
-mod tests;
 mod told;
 
 pub use apply_handler::ApplyHandler;

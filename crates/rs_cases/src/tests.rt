@@ -1,0 +1,4 @@
+mod inputs;
+mod lagging;
+mod peer;
+mod sent;
