@@ -1,4 +1,7 @@
+mod by_hand;
 mod inputs;
-mod lagging;
-mod peer;
+mod machines;
+mod scenes;
 mod sent;
+mod step;
+mod stores;

@@ -2,7 +2,7 @@ use Rattle.std.proofs.Common.{All, rules, [], subst}
 use Rattle.std.specs.Vec.Iter.{into_iter_items}
 use Rattle.rs_apply.specs.Fitting.{FitsApply}
 use Rattle.rs_apply.proofs.Places.{taken_all}
-use Rattle.rs_cases.proofs.tests.lagging.LaggingStore.hand_to_applies.Goals as goal
+use Rattle.rs_cases.proofs.tests.by_hand.ByHand.hand_to_applies.Goals as goal
 
 pub tell_apply-requires-clause-message : goal.tell_apply-requires-clause-message
 tell_apply-requires-clause-message c =

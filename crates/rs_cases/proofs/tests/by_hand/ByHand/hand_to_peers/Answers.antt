@@ -2,7 +2,7 @@ use Rattle.std.proofs.Common.{All, rules, [], subst}
 use Rattle.std.specs.Vec.Iter.{into_iter_items}
 use Rattle.rs_apply.specs.Fitting.{FitsPeer}
 use Rattle.rs_apply.proofs.Places.{taken_all}
-use Rattle.rs_cases.proofs.tests.lagging.LaggingStore.hand_to_peers.Goals as goal
+use Rattle.rs_cases.proofs.tests.by_hand.ByHand.hand_to_peers.Goals as goal
 
 pub tell_peer-requires-clause-message : goal.tell_peer-requires-clause-message
 tell_peer-requires-clause-message c =
