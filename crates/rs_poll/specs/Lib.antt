@@ -1,4 +1,5 @@
 pub mod Answers
 pub mod Counts
+pub mod Handing
 pub mod Kept
 pub mod Visits

@@ -3,6 +3,7 @@ ghost use Rattle.rs_router.specs.Desks.{AreDesksOf, AllCalm, AllNamed};
 ghost use Rattle.rs_router.specs.Lists.{Rose, SameBag, StartsWith};
 ghost use Rattle.rs_router.specs.Turns.{turn_steps};
 ghost use Rattle.rs_poll.specs.Counts.{RoseBy};
+ghost use Rattle.rs_poll.specs.Handing.{all_known};
 
 use rs_key::NoMemory;
 use rs_mailcore::{Fsm, Named};
@@ -22,6 +23,8 @@ pub enum More {
 /// puts into its `Out`, and `send_out` sends that once the machine is given back. It counts the messages that it
 /// handled and how often it advanced, and knows what `advance` answered last. Where it has no memory its counts stay.
 pub trait Handler<F: Fsm, S: Scheduler>: Send + Drop {
+    ghost use Rattle.std.specs.Prelude.{List};
+    ghost use Rattle.rs_poll.specs.Handing.{Known};
     ghost use Rattle.rs_poll.specs.declared.handler.More.{More};
 
     /// What comes out of the machines, until it is sent.
@@ -47,6 +50,18 @@ pub trait Handler<F: Fsm, S: Scheduler>: Send + Drop {
 
     ghost one_fit: { (h : Self) (o : Self.Out) → IsProp (fits h o) };
 
+    /// What a `handle` that answers Ok made of the machine and of `Out`, in the handler's own words: of the machine, the
+    /// message and `Out` before, and of machine and `Out` after.
+    ghost handled: { F → F.Message → Self.Out → F → Self.Out → Type 0 };
+
+    /// What an `advance` that answers Ok made of them: of the machine, the budget and `Out` before, the answer, and of
+    /// machine and `Out` after.
+    ghost advanced: { F → ℕ → Self.Out → More → F → Self.Out → Type 0 };
+
+    /// What a `send_out` that answers Ok did, in the handler's own words: of the handler, its `Out` and what the lent
+    /// stations know before, and of all three after.
+    ghost sent: { Self → Self.Out → List (Known F.Name F.Message) → Self → Self.Out → List (Known F.Name F.Message) → Type 0 };
+
     /// Lets the machine handle a message.
     fn handle(
         &mut self,
@@ -61,6 +76,7 @@ pub trait Handler<F: Fsm, S: Scheduler>: Send + Drop {
         ensures name { name self.new ≡ name self.old }
         ensures count { count self.new ≡ count self.old }
         ensures out { fits self.new out.new }
+        ensures handled { OnOk result (handled machine.old message out.old machine.new out.new) }
         ensures handles { MatchResult result (λ _. RoseBy 1 (handles self.old) (handles self.new)) (λ _. handles self.new ≡ handles self.old) }
         ensures advances { advances self.new ≡ advances self.old };
 
@@ -79,6 +95,7 @@ pub trait Handler<F: Fsm, S: Scheduler>: Send + Drop {
         ensures out { fits self.new out.new }
         ensures handles { handles self.new ≡ handles self.old }
         ensures advances { MatchResult result (λ _. Rose (advances self.old) (advances self.new)) (λ _. advances self.new ≡ advances self.old) }
+        ensures advanced { IfOk result (λ more. advanced machine.old budget out.old more machine.new out.new) }
         ensures asked { IfOk result (λ more. asked self.new ≡ more) };
 
     /// Sends what came out. With Ok it took, gave back and closed nothing by these desks, and popped nothing.
@@ -108,5 +125,6 @@ pub trait Handler<F: Fsm, S: Scheduler>: Send + Drop {
         ensures pushed { StartsWith (S.pushed pass.new) (S.pushed pass.old) }
         ensures popped { OnOk result (SameBag (S.popped pass.old) (S.popped pass.new)) }
         ensures empties { OnOk result (S.empties pass.new ≡ S.empties pass.old) }
+        ensures sent { OnOk result (sent self.old out.old (all_known desks.old.stations.items) self.new out.new (all_known desks.new.stations.items)) }
         ensures turns { OnOk result (turn_steps desks.new.stations.items ≡ turn_steps desks.old.stations.items) };
 }

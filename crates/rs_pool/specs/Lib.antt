@@ -1,4 +1,5 @@
 pub mod Delivering
+pub mod Handling
 pub mod Outs
 pub mod Routes
 pub mod Stores

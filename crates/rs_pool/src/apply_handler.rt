@@ -1,4 +1,6 @@
 ghost use Rattle.std.specs.Prelude.{◌≡◌};
+ghost use Rattle.rs_apply.specs.Machines.{is_more};
+ghost use Rattle.rs_pool.specs.Handling.{is_yes};
 
 use crate::seat::Seat;
 use crate::sending::send_all;
@@ -27,6 +29,8 @@ pub struct ApplyHandler<'r, 'p> {
 impl<'r, 'p> Handler<ApplyFsm<'p>, QueueScheduler> for ApplyHandler<'r, 'p> {
     ghost use Rattle.rs_apply.specs.Fitting.{Fits};
     ghost use Rattle.rs_check.specs.Values.{count_of};
+    ghost use Rattle.rs_poll.specs.Handing.{all_known};
+    ghost use Rattle.rs_pool.specs.Handling.{Advances, SendsAll, TellsApply};
     ghost use Rattle.rs_pool.specs.Outs.{Fits_prop};
 
     type Out = Outbox<'p>;
@@ -44,6 +48,12 @@ impl<'r, 'p> Handler<ApplyFsm<'p>, QueueScheduler> for ApplyHandler<'r, 'p> {
     ghost fits = { λ h out. Fits h.peers.plan.now out };
 
     ghost one_fit = { λ h out. Fits_prop h.peers.plan.now out };
+
+    ghost handled = { TellsApply };
+
+    ghost advanced = { Advances };
+
+    ghost sent = { λ h out lent i out_after lent_after. SendsAll out (all_known h.peers.desks.stations.items) (all_known i.peers.desks.stations.items) (all_known h.control.desks.stations.items) (all_known i.control.desks.stations.items) lent lent_after out_after };
 
     fn handle(
         &mut self,
@@ -92,7 +102,10 @@ impl<'r, 'p> Handler<ApplyFsm<'p>, QueueScheduler> for ApplyHandler<'r, 'p> {
     }
 }
 
-fn more_after(progress: Progress) -> More {
+/// Whether the machine is to run again for this.
+fn more_after(progress: Progress) -> More
+    ensures { is_yes result ≡ is_more progress }
+{
     match progress {
         Progress::More => More::Yes,
         Progress::Ended | Progress::WaitsFor { .. } | Progress::Rests => More::No,

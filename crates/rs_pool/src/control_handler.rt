@@ -1,6 +1,7 @@
-ghost use Rattle.std.specs.Prelude.{◌≡◌, ◌<◌, [], ◌∷◌, ◌++◌, IfSome, IsOk, OnOk, OnErr};
+ghost use Rattle.std.specs.Prelude.{◌≡◌, ◌<◌, [], ◌∷◌, ◌++◌, IfSome, IsOk, MatchOption, OnOk, OnErr};
 ghost use Rattle.rs_check.specs.Values.{count_of};
 ghost use Rattle.rs_msg.specs.Names.{name_of_store};
+ghost use Rattle.rs_pool.specs.Handling.{removed_by};
 ghost use Rattle.rs_pool.specs.Outs.{FitsControl};
 ghost use Rattle.rs_pool.specs.Stores.{IsComplete};
 
@@ -60,7 +61,8 @@ pub struct ControlHandler<'p> {
 }
 
 impl<'p> Handler<StoreFsm<'p>, QueueScheduler> for ControlHandler<'p> {
-    ghost use Rattle.std.specs.Prelude.{length};
+    ghost use Rattle.std.specs.Prelude.{◌≡◌, length};
+    ghost use Rattle.rs_pool.specs.Handling.{NamesStore, TellsStore};
     ghost use Rattle.rs_pool.specs.Outs.{FitsControl, FitsControl_prop};
     ghost use Rattle.rs_poll.specs.declared.handler.More.TheVariants.{No};
 
@@ -79,6 +81,12 @@ impl<'p> Handler<StoreFsm<'p>, QueueScheduler> for ControlHandler<'p> {
     ghost fits = { λ h out. FitsControl h.plan.now out };
 
     ghost one_fit = { λ h out. FitsControl_prop h.plan.now out };
+
+    ghost handled = { TellsStore };
+
+    ghost advanced = { λ x budget out more y out_after. (more ≡ No) × NamesStore x out y out_after };
+
+    ghost sent = { λ h out lent i out_after lent_after. (out_after ≡ out) × (lent_after ≡ lent) };
 
     fn handle(
         &mut self,
@@ -122,7 +130,8 @@ impl<'p> Handler<StoreFsm<'p>, QueueScheduler> for ControlHandler<'p> {
 /// The address of a region that the message says to have ended removed.
 fn removed_by(plan: &Plan, message: &StoreMsg<'_>) -> Option<u32>
     requires { name_of_store message.now ≡ plan.now }
-    ensures { IfSome result (λ address. address < count_of plan.now) }
+    ensures within { IfSome result (λ address. address < count_of plan.now) }
+    ensures value { MatchOption result (removed_by plan.now message.now ≡ []) (λ address. removed_by plan.now message.now ≡ address ∷ []) }
 {
     match message {
         StoreMsg::Reshaped { .. } => None,

@@ -24,6 +24,9 @@ impl<'r, 'p> Handler<PeerFsm<'p>, QueueScheduler> for PeerHandler<'r, 'p> {
     ghost use Rattle.rs_check.specs.Values.{count_of};
     ghost use Rattle.rs_pool.specs.Outs.{Fits_prop};
     ghost use Rattle.rs_poll.specs.declared.handler.More.TheVariants.{No};
+    ghost use Rattle.rs_poll.specs.Handing.{all_known};
+    ghost use Rattle.rs_pool.specs.Handling.{SendsTasks, TellsPeer};
+    ghost use Rattle.std.specs.Prelude.{◌≡◌};
 
     type Out = Outbox<'p>;
 
@@ -40,6 +43,12 @@ impl<'r, 'p> Handler<PeerFsm<'p>, QueueScheduler> for PeerHandler<'r, 'p> {
     ghost fits = { λ h out. Fits h.applies.plan.now out };
 
     ghost one_fit = { λ h out. Fits_prop h.applies.plan.now out };
+
+    ghost handled = { TellsPeer };
+
+    ghost advanced = { λ x budget out more y out_after. (more ≡ No) × (y ≡ x) × (out_after ≡ out) };
+
+    ghost sent = { λ h out lent i out_after lent_after. SendsTasks out (all_known h.applies.desks.stations.items) (all_known i.applies.desks.stations.items) out_after × (lent_after ≡ lent) };
 
     fn handle(
         &mut self,

@@ -1,7 +1,9 @@
-ghost use Rattle.std.specs.Prelude.{◌≡◌, ◌<◌, All, length};
-ghost use Rattle.rs_mailbox.specs.Mail.{OnMachine};
+ghost use Rattle.std.specs.Prelude.{◌≡◌, ◌<◌, All, OnOk, length};
+ghost use Rattle.rs_mailbox.specs.Mail.{OnMachine, Shuts};
+ghost use Rattle.rs_mailbox.specs.Stations.{view};
 ghost use Rattle.rs_poll.specs.Kept.{AllNamed_prop, AreDesksOf_prop};
-ghost use Rattle.rs_router.specs.Desks.{AreDesksOf, AllCalm, AllNamed};
+ghost use Rattle.rs_poll.specs.Handing.{all_known, Hands, HandsAll};
+ghost use Rattle.rs_router.specs.Desks.{AreDesksOf, AllCalm, AllNamed, ChangesAt};
 ghost use Rattle.rs_router.specs.Ids.{one_id};
 ghost use Rattle.rs_router.specs.Passes.{id_of, id_with};
 ghost use Rattle.rs_pool.specs.Routes.{IsFor};
@@ -43,6 +45,7 @@ impl<'r, 'p, F: Machine> Seat<'r, 'p, F> {
         requires message { IsFor F.Message.name (F.count self.old.plan.now) self.old.plan.now (address, message) }
         ensures plan { self.new.plan ≡ self.old.plan }
         ensures router { self.new.router ≡ self.old.router }
+        ensures sent { OnOk result (ChangesAt address (Hands message) (all_known self.old.desks.stations.items) (all_known self.new.desks.stations.items)) }
     {
         send(
             rt,
@@ -63,6 +66,7 @@ impl<'r, 'p, F: Machine> Seat<'r, 'p, F> {
         requires messages { All (IsFor F.Message.name (F.count self.old.plan.now) self.old.plan.now) messages }
         ensures plan { self.new.plan ≡ self.old.plan }
         ensures router { self.new.router ≡ self.old.router }
+        ensures sent { OnOk result (HandsAll messages (all_known self.old.desks.stations.items) (all_known self.new.desks.stations.items)) }
     {
         if messages.is_empty() {
             return Ok(());
@@ -75,6 +79,7 @@ impl<'r, 'p, F: Machine> Seat<'r, 'p, F> {
         requires below { address < F.count self.old.plan.now }
         ensures plan { self.new.plan ≡ self.old.plan }
         ensures router { self.new.router ≡ self.old.router }
+        ensures shut { ChangesAt address (λ s t. Shuts (view s) result (view t) × (t.sender ≡ s.sender)) self.old.desks.stations.items self.new.desks.stations.items }
         ensures name { OnMachine result (λ machine. F.name machine ≡ self.old.plan.now) }
     {
         self.router.close(&mut self.desks, address)

@@ -1,8 +1,9 @@
-ghost use Rattle.std.specs.Prelude.{◌≡◌, All, OnOk};
-ghost use Rattle.rs_router.specs.Desks.{AreDesksOf, AllCalm};
+ghost use Rattle.std.specs.Prelude.{◌≡◌, All, OnErr, OnOk};
+ghost use Rattle.rs_poll.specs.Handing.{all_known, Hands, HandsAll};
+ghost use Rattle.rs_router.specs.Desks.{AreDesksOf, AllCalm, ChangesAt};
 ghost use Rattle.rs_router.specs.Lists.{SameBag, StartsWith};
 ghost use Rattle.rs_router.specs.Turns.{turn_steps};
-ghost use Rattle.rs_pool.specs.Routes.{Reaches};
+ghost use Rattle.rs_pool.specs.Routes.{HadMemory, Reaches};
 
 use rs_key::{NoMemory, Rows};
 use rs_mailcore::{Fsm, Named};
@@ -28,9 +29,18 @@ pub fn send<F: Fsm, S: Scheduler, R: Wait>(
     ensures pushed { StartsWith (S.pushed pass.new) (S.pushed pass.old) }
     ensures popped { SameBag (S.popped pass.old) (S.popped pass.new) }
     ensures empties { S.empties pass.new ≡ S.empties pass.old }
+    ensures sent { OnOk result (ChangesAt address (Hands message) (all_known desks.old.stations.items) (all_known desks.new.stations.items)) }
     ensures turns { OnOk result (turn_steps desks.new.stations.items ≡ turn_steps desks.old.stations.items) }
 {
-    match router.send(rt, desks, pass, address, message) {
+    unless_no_memory(router.send(rt, desks, pass, address, message))
+}
+
+/// Drops a message that came back, unless it did for want of memory.
+fn unless_no_memory<M: Drop>(sent: Result<(), RouteError<M>>) -> Result<(), NoMemory>
+    ensures ok { OnOk result (HadMemory sent) }
+    ensures err { OnErr result (¬ HadMemory sent) }
+{
+    match sent {
         Ok(()) | Err(RouteError::Closed(_)) | Err(RouteError::Spent(_)) => Ok(()),
         Err(RouteError::NoMemory(_)) => Err(NoMemory),
     }
@@ -54,6 +64,7 @@ pub fn send_all<F: Fsm, S: Scheduler, R: Wait>(
     ensures pushed { StartsWith (S.pushed pass.new) (S.pushed pass.old) }
     ensures popped { SameBag (S.popped pass.old) (S.popped pass.new) }
     ensures empties { S.empties pass.new ≡ S.empties pass.old }
+    ensures sent { OnOk result (HandsAll messages (all_known desks.old.stations.items) (all_known desks.new.stations.items)) }
     ensures turns { OnOk result (turn_steps desks.new.stations.items ≡ turn_steps desks.old.stations.items) }
 {
     for (address, message) in messages.into_vec() {

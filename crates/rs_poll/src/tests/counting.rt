@@ -56,6 +56,12 @@ impl<'a, S: Scheduler> Handler<Tally, S> for Counting<'a> {
 
     ghost one_fit = { λ h o. Unit-prop };
 
+    ghost handled = { λ x m o y p. Unit {0} };
+
+    ghost advanced = { λ x n o more y p. Unit {0} };
+
+    ghost sent = { λ h o ks i p ls. ls ≡ ks };
+
     fn handle(
         &mut self,
         machine: &mut Tally,

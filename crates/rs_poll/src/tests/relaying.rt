@@ -105,6 +105,12 @@ impl Handler<Tally, QueueScheduler> for Relaying {
 
     ghost one_fit = { λ h o p q i k l b. le_prop (p k l b) (q k l b) i };
 
+    ghost handled = { λ x m o y p. Unit {0} };
+
+    ghost advanced = { λ x n o more y p. Unit {0} };
+
+    ghost sent = { λ h o ks i p ls. Unit {0} };
+
     fn handle(
         &mut self,
         machine: &mut Tally,

@@ -1,4 +1,6 @@
-use Rattle.std.proofs.Common.{◌≡◌}
+use Rattle.std.proofs.Common.{◌≡◌, List}
+use Rattle.std.specs.Vec.Iter.{into_iter_items}
+use Rattle.rs_poll.specs.Handing.{all_known, HandsAll, Known}
 use Rattle.rs_router.specs.Desks.{AreDesksOf, AllCalm}
 use Rattle.rs_router.specs.Lists.{SameBag, StartsWith}
 use Rattle.rs_router.specs.Turns.{turn_steps}
@@ -13,3 +15,4 @@ invariant-loop-address g l =
     × StartsWith (g.S.Scheduler.pushed l.pass) (g.S.Scheduler.pushed l.initial.pass)
     × SameBag (g.S.Scheduler.popped l.initial.pass) (g.S.Scheduler.popped l.pass)
     × (g.S.Scheduler.empties l.pass ≡ g.S.Scheduler.empties l.initial.pass)
+    × ((after : List (Known g.row.F-Name.Denot g.row.F-Message.Denot)) → HandsAll (into_iter_items l.address-iterator) (all_known l.desks.stations.items) after → HandsAll l.fn.messages (all_known l.initial.desks.stations.items) after)
