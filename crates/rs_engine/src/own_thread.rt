@@ -5,7 +5,7 @@ ghost use Rattle.rs_pool.specs.Stores.{AreThere};
 
 use crate::taking::Taking;
 use crate::telling::Telling;
-use crate::workers::{ApplyPoller, ControlPoller, PeerPoller, take_turn};
+use crate::workers::{ApplyPoller, ControlPoller, PeerPoller, had_ticket};
 use once_cell::race::OnceBox;
 use rs_apply::ApplyFsm;
 use rs_base::{Gate, OpenGate};
@@ -100,11 +100,11 @@ impl<'r, 'p> OwnThread<'r, 'p> {
         ensures { self.new.plan ≡ self.old.plan }
     {
         let told = self.telling.tell_next(rt)?;
-        let peers = take_turn(rt, gate, &mut self.peers)?;
-        let applies = take_turn(rt, gate, &mut self.applies)?;
-        let control = take_turn(rt, &OpenGate, &mut self.control)?;
+        let peers = self.peers.poll_once(rt, gate)?;
+        let applies = self.applies.poll_once(rt, gate)?;
+        let control = self.control.poll_once(rt, &OpenGate)?;
         self.take_told(alloc)?;
-        Ok(told || peers || applies || control)
+        Ok(told || had_ticket(peers) || had_ticket(applies) || had_ticket(control))
     }
 
     /// Does what the control machines told: closes the mailboxes of regions that ended removed, and takes the machines

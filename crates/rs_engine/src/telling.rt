@@ -1,5 +1,7 @@
-ghost use Rattle.std.specs.Prelude.{◌≡◌, ◌<◌};
+ghost use Rattle.std.specs.Prelude.{◌≡◌, ◌<◌, IfOk};
 ghost use Rattle.rs_check.specs.Values.{count_of};
+ghost use Rattle.rs_poll.specs.Handing.{all_known};
+ghost use Rattle.rs_engine.specs.Telling.{TellsNext};
 
 use rs_key::NoMemory;
 use rs_peer::PeerFsm;
@@ -17,7 +19,8 @@ pub struct Telling<'r, 'p> {
 impl<'r, 'p> Telling<'r, 'p> {
     /// Tells one peer machine of its log. False where all was told.
     pub fn tell_next<R: Wait>(&mut self, rt: &R) -> Result<bool, NoMemory>
-        ensures { self.new.seat.plan ≡ self.old.seat.plan }
+        ensures plan { self.new.seat.plan ≡ self.old.seat.plan }
+        ensures told { IfOk result (λ any. TellsNext self.old.deliveries.plan self.old.deliveries.chunk any self.old.deliveries.waiting.items (all_known self.old.seat.desks.stations.items) self.new.deliveries.waiting.items (all_known self.new.seat.desks.stations.items)) }
     {
         let Some((address, message)) = self.deliveries.next()? else {
             return Ok(false);

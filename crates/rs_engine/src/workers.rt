@@ -1,4 +1,5 @@
-ghost use Rattle.std.specs.Prelude.{◌≡◌};
+ghost use Rattle.std.specs.Prelude.{◌≡◌, true, false};
+ghost use Rattle.rs_poll.specs.Answers.{MatchWorked};
 
 use crate::routers::Routers;
 use once_cell::race::OnceBox;
@@ -79,17 +80,13 @@ fn serve<'r, F: Fsm, H: Handler<F, QueueScheduler>, R: Wait, G: Gate>(
     }
 }
 
-/// Lets a poller take one turn. Whether there was a ticket.
-pub fn take_turn<'r, F: Fsm, H: Handler<F, QueueScheduler>, R: Wait, G: Gate>(
-    rt: &R,
-    gate: &G,
-    poller: &mut Poller<'r, F, QueueScheduler, H>,
-) -> Result<bool, NoMemory>
-    ensures { H.name poller.new.worker.handler ≡ H.name poller.old.worker.handler }
+/// Whether a turn had a ticket.
+pub fn had_ticket(worked: Worked) -> bool
+    ensures { MatchWorked worked (λ _. result ≡ true) (λ _. result ≡ true) (result ≡ false) }
 {
-    match poller.poll_once(rt, gate)? {
-        Worked::Turned(_) | Worked::Gone(_) => Ok(true),
-        Worked::Nothing => Ok(false),
+    match worked {
+        Worked::Turned(_) | Worked::Gone(_) => true,
+        Worked::Nothing => false,
     }
 }
 
