@@ -5,7 +5,7 @@ use Rattle.std.proofs.lemmas.List.{take_rest}
 use Rattle.std.specs.declared.string.String.{String}
 use Rattle.std.specs.Global.{Global}
 use Rattle.std.specs.String.{string_bytes}
-use Rattle.raftreplay.specs.declared.settings.Chosen.{Chosen}
+use Rattle.raftreplay.specs.declared.options.Chosen.{Chosen}
 use Rattle.raftreplay.specs.Settings.{chosen_by, chosen_with}
 use Rattle.raftreplay.specs.Words.{bytes_of}
 

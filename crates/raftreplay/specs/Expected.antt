@@ -11,7 +11,7 @@ use Rattle.rs_check.specs.Laws.{check}
 use Rattle.rs_check.specs.Plans.{rows_of, stop_of}
 use Rattle.rs_text.specs.Logs.{text_of}
 use Rattle.rs_text.specs.Outcomes.{outcome_text, history_text}
-use Rattle.rs_outcome.specs.Outcomes.{outcome_of}
+use Rattle.rs_history.specs.Outcomes.{outcome_of}
 use Rattle.rs_gen.specs.Inputs.{made_of}
 use Rattle.raftreplay.specs.Words.{command_of}
 use Rattle.raftreplay.specs.declared.status.Status.{Status}

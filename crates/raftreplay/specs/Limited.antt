@@ -1,7 +1,7 @@
 -- Numbers that are chosen within their limits.
 use Rattle.std.specs.Prelude.{IfSome}
 use Rattle.rs_engine.specs.Limits.{IsUpTo}
-use Rattle.raftreplay.specs.declared.settings.Chosen.{Chosen}
+use Rattle.raftreplay.specs.declared.options.Chosen.{Chosen}
 
 -- each number that is chosen is one that its setting may have
 pub record IsLimited (chosen : Chosen) : Type 0 where

@@ -3,9 +3,9 @@ use Rattle.std.specs.Prelude.{ℕ, nat_le, ◌&&◌, List, [], ◌∷◌, codes,
 use Rattle.std.specs.Str.{bytes_eq}
 use Rattle.rs_field.specs.Fields.{number_of}
 use Rattle.rs_field.specs.declared.fault.TextKind.{TextKind}
-use Rattle.raftreplay.specs.declared.settings.Setting.{Setting}
-use Rattle.raftreplay.specs.declared.settings.Setting.TheVariants as settings
-use Rattle.raftreplay.specs.declared.settings.Chosen.{Chosen}
+use Rattle.raftreplay.specs.declared.options.Setting.{Setting}
+use Rattle.raftreplay.specs.declared.options.Setting.TheVariants as settings
+use Rattle.raftreplay.specs.declared.options.Chosen.{Chosen}
 
 -- ---- numbers
 

@@ -2,7 +2,7 @@ ghost use Rattle.std.specs.Prelude.{◌≡◌, ◌≤◌, ◌<◌, ◌^◌, ◌�
 ghost use Rattle.rs_base.specs.Counts.{Rose};
 ghost use Rattle.rs_text.specs.Logs.{text_of};
 ghost use Rattle.rs_text.specs.Outcomes.{outcome_text, history_text};
-ghost use Rattle.rs_outcome.specs.Outcomes.{outcome_of};
+ghost use Rattle.rs_history.specs.Outcomes.{outcome_of};
 ghost use Rattle.rs_gen.specs.Inputs.{made_of};
 ghost use Rattle.raftreplay.specs.Statuses.{IsWritten, IsSilent, IsUnread};
 ghost use Rattle.raftreplay.specs.Expected.{expected, answer_of, counts_text, is_read, bytes_for, done};
@@ -10,9 +10,9 @@ ghost use Rattle.raftreplay.specs.Kept.{KeepsTo, IsExpected, Wrote, Obeyed};
 ghost use Rattle.raftreplay.specs.Words.{command_of, bytes_of};
 
 use crate::answer::finish;
-use crate::counting::write_counts;
-use crate::lawful::write_lawful;
+use crate::check_text::write_lawful;
 use crate::reading::lawful_logs;
+use crate::selftest_text::write_counts;
 use crate::status::Status;
 use crate::words::{Command, command_of};
 use rs_base::{Gate, Sink, Source};

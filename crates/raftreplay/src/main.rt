@@ -4,12 +4,12 @@
 #![tactic(auto)]
 
 mod answer;
+mod check_text;
 mod commands;
-mod counting;
 mod key_word;
-mod lawful;
+mod options;
 mod reading;
-mod settings;
+mod selftest_text;
 mod status;
 mod streams;
 #[cfg(test)]

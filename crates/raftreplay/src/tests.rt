@@ -1,10 +1,7 @@
 ghost use Rattle.std.specs.Prelude.{◌<◌};
 
 mod gates;
-mod made;
 mod orders;
-mod runs;
-mod usage;
 
 use super::*;
 use rs_base::{Gate, MemSink, MemSource};
@@ -94,46 +91,18 @@ fn replay_on<R: Threads + Wait + Sync, G: Gate>(
 
 #[test]
 fn each_text_has_its_status_and_answer(rt: HostRuntime) -> Result<(), Fail> {
+    let alloc = rt.alloc();
+    let both = format!(in alloc; "store 1\n{TWO_STORES_BODY}store 2\n{TWO_STORES_BODY}")?;
     for (words, text, status, answer) in [
-        ("fold", LOGS, Status::Done, OUTCOME),
-        ("fold", "raftreplay 1\nend\n", Status::Done, ""),
-        (
-            "fold",
-            "  raftreplay  2 \nstore 1\nregion 1 - 6D 4 9\nend\n",
-            Status::Done,
-            "store 1\nregion 1 epoch 1 1 range - 6d applied 5 left 0 normal peers 4 9\n",
-        ),
-        ("fold", "", Status::Syntax, "syntax 1 BadHeader\n"),
-        (
-            "fold",
-            "raftreplay 1\nstore 1\nlog 1\n7 1 1 empty\nend\n",
-            Status::Syntax,
-            "syntax 4 BadIndex\n",
-        ),
-        (
-            "fold",
-            "raftreplay 1\nstore 1\nstore 2\nend\n",
-            Status::Done,
-            "store 1\nstore 2\n",
-        ),
+        ("fold", TWO_STORES, Status::Done, both.as_str()),
+        ("run --chunk 1", TWO_STORES, Status::Done, both.as_str()),
         ("check", LOGS, Status::Done, "lawful 1 1 5\n"),
-        (
-            "check",
-            "raftreplay 1\nstore 1\nregion 1 - -\nlog 1\n6 1 1 rollback 5\nend\n",
-            Status::Unlawful,
-            "unlawful badrollback 1 1 6 5 normal\n",
-        ),
-        (
-            "history 62",
-            LOGS,
-            Status::Done,
-            "store 3\nhistory 62 7/7=- 7/9!\n",
-        ),
         ("history 6D", LOGS, Status::Done, "store 3\nhistory 6d\n"),
+        ("fold x", LOGS, Status::Usage, ""),
     ] {
-        let ran = replay(&rt, rt.alloc(), words, text)?;
-        assert_eq!(rt; ran.status, status, "{words} on {text}");
-        assert_eq!(rt; ran.text.as_slice(), answer.as_bytes(), "{words} on {text}");
+        let ran = replay(&rt, alloc, words, text)?;
+        assert_eq!(rt; ran.status, status, "{words}");
+        assert_eq!(rt; ran.text.as_slice(), answer.as_bytes(), "{words}");
         assert_eq!(rt; ran.faults, (0, 0));
     }
     Ok(())

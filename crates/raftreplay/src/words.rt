@@ -2,7 +2,7 @@ ghost use Rattle.std.specs.Prelude.{◌≡◌, true, is_some, IfOk, OnErr};
 ghost use Rattle.raftreplay.specs.Words.{bytes_of, command_of, command_named, alone, with_key, with_options, with_number, with_number_and_options};
 
 use crate::key_word::key_word;
-use crate::settings::{number_word, options_of};
+use crate::options::{number_word, options_of};
 use rs_engine::Options;
 use rs_key::{Key, NoMemory};
 use std::alloc::Global;

@@ -10,9 +10,9 @@ use Rattle.rs_region.specs.Reshapings.{prepared, rolled_back, reconfigured}
 use Rattle.rs_region.specs.Verdicts.{verdict}
 use Rattle.rs_region.specs.declared.state.RegionState.{RegionState}
 use Rattle.rs_region.specs.declared.verdict.Verdict.TheVariants as verdicts
-use Rattle.rs_order.specs.Stores.{wrote}
-use Rattle.rs_value.specs.Items.{history_of}
-use Rattle.rs_map.specs.Maps.{Writes, HasItems, items_at, with_writes}
+use Rattle.rs_store.specs.Stores.{wrote}
+use Rattle.rs_part.specs.Items.{history_of}
+use Rattle.rs_msg.specs.Maps.{Writes, HasItems, items_at, with_writes}
 use Rattle.rs_check.specs.Lawfulness.{PlanLaws}
 use Rattle.rs_check.specs.Values.{part_at, region_of}
 use Rattle.rs_msg.specs.Held.{IsHeld}

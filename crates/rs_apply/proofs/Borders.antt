@@ -3,7 +3,7 @@ use Rattle.std.proofs.Common.{◌≡◌, ◌⊎◌, inl, inr, ⊎_elim, ℕ, Boo
 use Rattle.rs_key.specs.Keys.{is_below}
 use Rattle.rs_key.specs.Ranges.{Bounds, holds, is_next_to}
 use Rattle.rs_region.proofs.KeyOrder.{is_below_end, not_below_start}
-use Rattle.rs_map.specs.Maps.{Writes, HasItems, LiesBelow, LiesFrom, LiesIn, items_at, items_of_both}
+use Rattle.rs_msg.specs.Maps.{Writes, HasItems, LiesBelow, LiesFrom, LiesIn, items_at, items_of_both}
 use Rattle.rs_apply.proofs.Commits.{next_apart}
 
 -- what lies in a range lies below its end

@@ -16,9 +16,9 @@ use Rattle.rs_region.specs.Verdicts.{verdict}
 use Rattle.rs_region.specs.declared.state.RegionState.{RegionState}
 use Rattle.rs_region.specs.declared.verdict.Verdict.TheVariants as verdicts
 use Rattle.rs_region.proofs.KeyOrder.{from_start}
-use Rattle.rs_order.specs.Stores.{is_prepared_for}
-use Rattle.rs_value.specs.Scripts.{joined_part, may_join, with_source}
-use Rattle.rs_map.specs.Maps.{Writes, HasItems, LiesIn, items_at, items_of_both}
+use Rattle.rs_store.specs.Stores.{is_prepared_for}
+use Rattle.rs_part.specs.Scripts.{joined_part, may_join, with_source}
+use Rattle.rs_msg.specs.Maps.{Writes, HasItems, LiesIn, items_at, items_of_both}
 use Rattle.rs_check.specs.Lawfulness.{PlanLaws, Source}
 use Rattle.rs_check.specs.Plans.{address_of}
 use Rattle.rs_check.specs.Values.{count_of, region_of, part_on, part_at, part_in}

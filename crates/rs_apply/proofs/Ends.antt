@@ -3,7 +3,7 @@ use Rattle.std.proofs.Common.{◌≡◌, ℕ, ◌<◌, Some, ap, sym, ◌∙◌}
 use Rattle.rs_entry.specs.declared.input.Input.{Input}
 use Rattle.rs_entry.specs.declared.outcome.Mode.TheVariants as mode
 use Rattle.rs_region.specs.declared.state.RegionState.{RegionState}
-use Rattle.rs_map.specs.Maps.{Writes}
+use Rattle.rs_msg.specs.Maps.{Writes}
 use Rattle.rs_check.specs.Lawfulness.{PlanLaws}
 use Rattle.rs_check.specs.Plans.{address_of, ends_of, stop_of}
 use Rattle.rs_check.specs.Values.{count_of, part_at, part_on, region_of}

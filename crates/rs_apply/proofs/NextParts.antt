@@ -10,10 +10,10 @@ use Rattle.rs_region.specs.Verdicts.{verdict}
 use Rattle.rs_region.specs.declared.state.RegionState.{RegionState}
 use Rattle.rs_region.specs.declared.verdict.Verdict.{Verdict}
 use Rattle.rs_region.specs.declared.verdict.Verdict.TheVariants as verdicts
-use Rattle.rs_order.specs.Stores.{is_accept, reply_to}
-use Rattle.rs_value.specs.Parts.{Part}
-use Rattle.rs_value.specs.Scripts.{accepted, after_by}
-use Rattle.rs_map.specs.Maps.{Writes, items_at}
+use Rattle.rs_store.specs.Stores.{is_accept, reply_to}
+use Rattle.rs_part.specs.Parts.{Part}
+use Rattle.rs_part.specs.Scripts.{accepted, after_by}
+use Rattle.rs_msg.specs.Maps.{Writes, items_at}
 use Rattle.rs_check.specs.Lawfulness.{Accepted, PlanLaws}
 use Rattle.rs_check.specs.Values.{region_of, part_on, part_at, entry_at, reply_by}
 use Rattle.rs_msg.specs.Held.{state_in, items_in, IsPartOf, IsHeld}

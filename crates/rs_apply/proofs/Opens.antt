@@ -9,12 +9,12 @@ use Rattle.rs_entry.specs.declared.input.Store.{Store}
 use Rattle.rs_entry.specs.declared.outcome.Item.{Item}
 use Rattle.rs_region.specs.Reshapings.{boot}
 use Rattle.rs_region.specs.declared.state.RegionState.{RegionState}
-use Rattle.rs_order.specs.declared.regions.Made.{Made}
-use Rattle.rs_order.specs.declared.regions.Origin.TheVariants as origins
-use Rattle.rs_order.specs.Stores.{Stepped, Went, born, entries_in, first_some, no_regions, opening, then_advance, with_regions}
-use Rattle.rs_value.specs.Items.{items_in, no_items}
-use Rattle.rs_value.specs.Parts.{Part, at, first_part, part_if, part_when}
-use Rattle.rs_map.specs.Maps.{Writes, HasItems}
+use Rattle.rs_store.specs.declared.regions.Made.{Made}
+use Rattle.rs_store.specs.declared.regions.Origin.TheVariants as origins
+use Rattle.rs_store.specs.Stores.{Stepped, Went, born, entries_in, first_some, no_regions, opening, then_advance, with_regions}
+use Rattle.rs_part.specs.Items.{items_in, no_items}
+use Rattle.rs_part.specs.Parts.{Part, at, first_part, part_if, part_when}
+use Rattle.rs_msg.specs.Maps.{Writes, HasItems}
 use Rattle.rs_check.specs.Values.{part_at, part_in, part_on, region_of, store_at}
 use Rattle.rs_msg.specs.Held.{IsHeld}
 use Rattle.rs_apply.specs.Findings.{boot_in, boot_of}

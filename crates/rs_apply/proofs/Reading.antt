@@ -7,7 +7,7 @@ use Rattle.rs_entry.specs.declared.outcome.Reply.{Reply}
 use Rattle.rs_entry.specs.declared.outcome.ReplyLine.{ReplyLine}
 use Rattle.rs_region.specs.Verdicts.{verdict}
 use Rattle.rs_region.specs.declared.state.RegionState.{RegionState}
-use Rattle.rs_map.specs.Maps.{Writes}
+use Rattle.rs_msg.specs.Maps.{Writes}
 use Rattle.rs_check.specs.Lawfulness.{PlanLaws}
 use Rattle.rs_check.specs.Values.{part_at, entry_at, region_of, replies_to, reply_after, reply_lines, reshaped_by}
 use Rattle.rs_msg.specs.declared.closed.Closed.{Closed}

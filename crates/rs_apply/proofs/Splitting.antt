@@ -16,10 +16,10 @@ use Rattle.rs_region.specs.Reshapings.{split_kept, split_new, new_region, kept_r
 use Rattle.rs_region.specs.Verdicts.{verdict}
 use Rattle.rs_region.specs.declared.state.RegionState.{RegionState}
 use Rattle.rs_region.specs.declared.verdict.Verdict.TheVariants as verdicts
-use Rattle.rs_value.specs.Items.{Items, kept_items}
-use Rattle.rs_value.specs.Parts.{Part}
-use Rattle.rs_map.specs.Cuts.{IsKept, AreKept}
-use Rattle.rs_map.specs.Maps.{Writes, items_at}
+use Rattle.rs_part.specs.Items.{Items, kept_items}
+use Rattle.rs_part.specs.Parts.{Part}
+use Rattle.rs_msg.specs.Cuts.{IsKept, AreKept}
+use Rattle.rs_msg.specs.Maps.{Writes, items_at}
 use Rattle.rs_check.specs.Lawfulness.{Born, PlanLaws}
 use Rattle.rs_check.specs.Values.{part_at}
 use Rattle.rs_msg.specs.Held.{IsHeld}

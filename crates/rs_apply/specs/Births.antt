@@ -11,8 +11,8 @@ use Rattle.rs_region.specs.Verdicts.{verdict}
 use Rattle.rs_region.specs.declared.state.RegionState.{RegionState}
 use Rattle.rs_region.specs.declared.verdict.Verdict.{Verdict}
 use Rattle.rs_region.specs.declared.verdict.Verdict.TheVariants as verdicts
-use Rattle.rs_value.specs.Parts.{Part}
-use Rattle.rs_map.specs.Maps.{Writes}
+use Rattle.rs_part.specs.Parts.{Part}
+use Rattle.rs_msg.specs.Maps.{Writes}
 use Rattle.rs_check.specs.Lawfulness.{Placed}
 use Rattle.rs_check.specs.Values.{part_at, entry_at}
 use Rattle.rs_msg.specs.declared.messages.ApplyMsg.{ApplyMsg}

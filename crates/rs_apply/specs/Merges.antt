@@ -9,7 +9,7 @@ use Rattle.rs_entry.specs.declared.input.Input.{Input}
 use Rattle.rs_region.specs.Verdicts.{verdict}
 use Rattle.rs_region.specs.declared.verdict.Verdict.{Verdict}
 use Rattle.rs_region.specs.declared.verdict.Verdict.TheVariants as verdicts
-use Rattle.rs_value.specs.Parts.{Part}
+use Rattle.rs_part.specs.Parts.{Part}
 use Rattle.rs_check.specs.declared.plan.Plan.{Plan}
 use Rattle.rs_check.specs.Values.{part_at, entry_at, region_of}
 use Rattle.rs_msg.specs.declared.closed.Closed.{Closed}

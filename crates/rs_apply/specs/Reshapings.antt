@@ -6,8 +6,8 @@ use Rattle.rs_entry.specs.declared.entry.Entry.{Entry}
 use Rattle.rs_entry.specs.declared.input.Input.{Input}
 use Rattle.rs_region.specs.Verdicts.{verdict}
 use Rattle.rs_region.specs.declared.verdict.Verdict.{Verdict}
-use Rattle.rs_order.specs.Stores.{is_accept, is_reshaping}
-use Rattle.rs_value.specs.Parts.{Part}
+use Rattle.rs_store.specs.Stores.{is_accept, is_reshaping}
+use Rattle.rs_part.specs.Parts.{Part}
 use Rattle.rs_check.specs.declared.plan.Plan.{Plan}
 use Rattle.rs_check.specs.Values.{part_at, entry_at, reshaped_by}
 use Rattle.rs_msg.specs.declared.messages.StoreMsg.{StoreMsg}

@@ -4,7 +4,7 @@ use Rattle.rs_entry.specs.declared.entry.Entry.{Entry}
 use Rattle.rs_entry.specs.declared.input.Input.{Input}
 use Rattle.rs_entry.specs.declared.outcome.Reply.{Reply}
 use Rattle.rs_region.specs.declared.state.RegionState.{RegionState}
-use Rattle.rs_map.specs.Maps.{Writes}
+use Rattle.rs_msg.specs.Maps.{Writes}
 use Rattle.rs_check.specs.Plans.{stop_of}
 use Rattle.rs_check.specs.Values.{count_of, part_at, entry_at, reply_by}
 use Rattle.rs_msg.specs.Held.{IsHeld}

@@ -3,7 +3,7 @@
 ghost use Rattle.std.specs.Prelude.{◌≡◌, ◌-◌, ◌<◌, List, Some, OnOk, IfOk};
 ghost use Rattle.std.specs.Option.{is_some};
 ghost use Rattle.rs_entry.specs.declared.outcome.Mode.TheVariants as modes;
-ghost use Rattle.rs_map.specs.Maps.{Writes};
+ghost use Rattle.rs_msg.specs.Maps.{Writes};
 ghost use Rattle.rs_check.specs.Lawfulness.{PlanLaws};
 ghost use Rattle.rs_check.specs.Plans.{stop_of, ends_of};
 ghost use Rattle.rs_check.specs.Values.{count_of, replies_to};
@@ -11,13 +11,12 @@ ghost use Rattle.rs_msg.specs.Held.{IsEnding, IsHeld, leaves_map};
 ghost use Rattle.rs_apply.specs.Machines.{AddsEnding, AddsHandover, HandsOver};
 ghost use Rattle.rs_apply.specs.Merges.{merges_from};
 
-use crate::noting::store_place;
+use crate::records::store_place;
 use crate::region::Region;
 use rs_check::Plan;
 use rs_entry::{Mode, ReplyLine};
 use rs_key::{NoMemory, Rows, TryClone};
-use rs_map::Map;
-use rs_msg::{ApplyMsg, Closed, Ending, Outbox, StoreMsg};
+use rs_msg::{ApplyMsg, Closed, Ending, Map, Outbox, StoreMsg};
 use rs_region::RegionState;
 
 /// Sends what the region leaves, and gives the merges that it has committed.

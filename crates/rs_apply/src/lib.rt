@@ -5,24 +5,22 @@
 //! where the region ends it sends what is left. docs/BATCH.md tells who sends what when.
 #![tactic(auto)]
 
-mod advancing;
-mod asking;
+mod advance;
+mod apply_entry;
 mod births;
-mod changes;
+mod catch_up;
 mod ending;
-mod handling;
-mod held;
-mod joining;
-mod looking;
+mod handle;
+mod local_entries;
+mod lookahead;
 mod machine;
+mod merge;
 mod next;
-mod noting;
 mod progress;
+mod records;
 mod region;
-mod splits;
-mod steps;
-#[cfg(test)]
-mod tests;
+mod sources;
+mod split;
 
 pub use machine::ApplyFsm;
 pub use progress::Progress;

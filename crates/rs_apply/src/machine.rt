@@ -7,9 +7,9 @@ ghost use Rattle.rs_apply.specs.Fitting.{Fits};
 ghost use Rattle.rs_apply.specs.Handling.{held_after, merges_so_far, named_after, tells_merge, IsBornBy, IsOpened};
 ghost use Rattle.rs_apply.specs.Machines.{IsAdvance, IsTied};
 
-use crate::advancing::advance;
+use crate::advance::advance;
 use crate::births::{born, opened};
-use crate::handling::{ends_by, is_new, merges_so_far};
+use crate::handle::{ends_by, is_new, merges_so_far};
 use crate::progress::{Life, Progress};
 use rs_check::Plan;
 use rs_entry::Input;
@@ -113,7 +113,7 @@ impl<'p> ApplyFsm<'p> {
         Ok(())
     }
 
-    /// Applies what is named and at hand, at most as many entries as the budget, and tells how far that was.
+    /// Applies the entries that are named and there, at most as many entries as the budget, and tells how far that was.
     pub fn advance(&mut self, budget: u32, out: &mut Outbox<'p>) -> Result<Progress, NoMemory>
         ensures plan { self.new.plan ≡ self.old.plan }
         ensures address { self.new.address ≡ self.old.address }

@@ -1,4 +1,4 @@
-ghost use Rattle.rs_order.specs.Runs.{line_entry};
+ghost use Rattle.rs_store.specs.Runs.{line_entry};
 ghost use Rattle.rs_apply.specs.Steps.{HasNext};
 
 use rs_check::{Line, Plan};

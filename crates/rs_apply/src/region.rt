@@ -1,6 +1,6 @@
 ghost use Rattle.std.specs.Prelude.{◌≡◌, ◌+◌, ◌-◌, ◌<◌, ◌≤◌, ◌^◌, ◌⊎◌, ◌++◌, ℕ, Some, None, OnOk, IfOk, IsSome};
 ghost use Rattle.std.specs.List.{All};
-ghost use Rattle.rs_order.specs.Runs.{line_entry, IsFormed};
+ghost use Rattle.rs_store.specs.Runs.{line_entry, IsFormed};
 ghost use Rattle.rs_check.specs.Lawfulness.{PlanLaws};
 ghost use Rattle.rs_check.specs.Plans.{stop_of};
 ghost use Rattle.rs_check.specs.Values.{count_of, replies_to, reshaped_by};
@@ -9,17 +9,16 @@ ghost use Rattle.rs_apply.specs.Merges.{merges_from, waits_at};
 ghost use Rattle.rs_apply.specs.Runs.{HasDone, HasRun};
 ghost use Rattle.rs_apply.specs.Steps.{HasNext};
 
-use crate::changes::change;
-use crate::looking::{is_reshaping, merge_in, unheld};
+use crate::apply_entry::change;
+use crate::lookahead::{is_reshaping, merge_in, unheld};
 use crate::next::Next;
-use crate::noting::{note_merge, note_reply, tell_reshaping};
+use crate::records::{note_merge, note_reply, tell_reshaping};
 use rs_check::{Line, Plan};
 use rs_entry::ReplyLine;
 use rs_key::{NoMemory, Rows};
-use rs_map::Map;
-use rs_msg::{Closed, Outbox};
-use rs_order::verdict_of;
+use rs_msg::{Closed, Map, Outbox};
 use rs_region::RegionState;
+use rs_store::verdict_of;
 use std::alloc::Global;
 
 /// A region that was made, as it is after an index.

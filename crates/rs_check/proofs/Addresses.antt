@@ -5,12 +5,12 @@ use Rattle.std.specs.List.{cons_option, filter_map, find}
 use Rattle.rs_entry.specs.WellFormed.{WellFormed}
 use Rattle.rs_entry.specs.declared.input.Input.{Input}
 use Rattle.rs_entry.specs.declared.input.Store.{Store}
-use Rattle.rs_order.specs.declared.regions.Made.{Made}
-use Rattle.rs_order.specs.Stores.{ids_of, own}
-use Rattle.rs_order.specs.Runs.{forget}
-use Rattle.rs_value.specs.Counting.{IsAmong}
-use Rattle.rs_value.specs.Parts.{at}
-use Rattle.rs_value.proofs.Members.{among_flat, among_get}
+use Rattle.rs_store.specs.declared.regions.Made.{Made}
+use Rattle.rs_store.specs.Stores.{ids_of, own}
+use Rattle.rs_store.specs.Runs.{forget}
+use Rattle.rs_part.specs.Counting.{IsAmong}
+use Rattle.rs_part.specs.Parts.{at}
+use Rattle.rs_part.proofs.Members.{among_flat, among_get}
 use Rattle.rs_check.specs.declared.rows.Row.{Row}
 use Rattle.rs_check.specs.Laws.{check}
 use Rattle.rs_check.specs.Lawfulness.{Placed}

@@ -3,9 +3,9 @@ use Rattle.std.proofs.Common.{◌≡◌, ℕ, None, Some}
 use Rattle.rs_entry.specs.declared.input.Input.{Input}
 use Rattle.rs_entry.specs.declared.input.Store.{Store}
 use Rattle.rs_entry.specs.WellFormed.{WellFormed}
-use Rattle.rs_value.specs.Counting.{IsAmong}
-use Rattle.rs_value.specs.Parts.{Part, at}
-use Rattle.rs_value.proofs.Moments.{stores_agree_at}
+use Rattle.rs_part.specs.Counting.{IsAmong}
+use Rattle.rs_part.specs.Parts.{Part, at}
+use Rattle.rs_part.proofs.Moments.{stores_agree_at}
 use Rattle.rs_check.specs.Laws.{check}
 use Rattle.rs_check.specs.Scripts.{script_of}
 use Rattle.rs_check.proofs.LawfulScripts.{tells_lawful, begins_lawful}

@@ -8,11 +8,11 @@ use Rattle.rs_entry.specs.declared.input.Input.{Input}
 use Rattle.rs_entry.specs.declared.law_fault.Statement.{Statement}
 use Rattle.rs_entry.specs.declared.law_fault.Statement.TheVariants as said
 use Rattle.rs_entry.specs.WellFormed.{WellFormed}
-use Rattle.rs_value.specs.Counting.{IsAmong}
-use Rattle.rs_value.specs.Ranges.{Apart, EachId, StatesApart}
-use Rattle.rs_value.specs.Scripts.{Opened}
-use Rattle.rs_value.specs.Telling.{Begins, boot_states}
-use Rattle.rs_value.proofs.Members.{among_left, among_map, among_flat, among_find}
+use Rattle.rs_part.specs.Counting.{IsAmong}
+use Rattle.rs_part.specs.Ranges.{Apart, EachId, StatesApart}
+use Rattle.rs_part.specs.Scripts.{Opened}
+use Rattle.rs_part.specs.Telling.{Begins, boot_states}
+use Rattle.rs_part.proofs.Members.{among_left, among_map, among_flat, among_find}
 use Rattle.rs_check.specs.Laws.{boots, share_a_key, overlap, overlaps_of, overlaps, lesser, least, first_overlap}
 use Rattle.rs_check.specs.Statements.{Stated, stated, store_stated, log_stated, of_boot, first_differ}
 use Rattle.rs_check.specs.Scripts.{script_of, names, birth_by}

@@ -14,24 +14,24 @@ use Rattle.rs_entry.specs.declared.input.Input.{Input}
 use Rattle.rs_entry.specs.declared.input.Store.{Store}
 use Rattle.rs_region.specs.Reshapings.{boot, new_ranges, split_new}
 use Rattle.rs_region.specs.declared.state.RegionState.{RegionState}
-use Rattle.rs_order.specs.declared.regions.Made.{Made}
-use Rattle.rs_order.specs.declared.regions.Origin.{Origin}
-use Rattle.rs_order.specs.declared.regions.Origin.TheVariants as origins
-use Rattle.rs_order.specs.Runs.{IsFormed}
-use Rattle.rs_order.specs.Stores.{first_some, is_accept, own, own_next}
-use Rattle.rs_order.specs.Stores.{entry_at as carried_entry}
-use Rattle.rs_order.proofs.FormLaws.{formed_store}
-use Rattle.rs_order.proofs.Verdicts.{formed_carried}
-use Rattle.rs_value.specs.Items.{kept_items, no_items}
-use Rattle.rs_value.specs.Parts.{Part, at}
-use Rattle.rs_value.specs.Scripts.{Birth, IsPart, Never, Opened, Script, SplitOff, begun, child_by, child_of, child_with, found}
-use Rattle.rs_value.specs.Settled.{IsMade}
-use Rattle.rs_value.proofs.Children.{children_born}
-use Rattle.rs_value.proofs.Cutting.{all_both, all_ids, each_id, find_each}
-use Rattle.rs_value.proofs.Laws.{at_birth}
-use Rattle.rs_value.proofs.Reached.{reached_is_at}
-use Rattle.rs_value.proofs.Members.{among_all}
-use Rattle.rs_value.proofs.Origins.{boot_birth, last_boots, last_origins, origin_of}
+use Rattle.rs_store.specs.declared.regions.Made.{Made}
+use Rattle.rs_store.specs.declared.regions.Origin.{Origin}
+use Rattle.rs_store.specs.declared.regions.Origin.TheVariants as origins
+use Rattle.rs_store.specs.Runs.{IsFormed}
+use Rattle.rs_store.specs.Stores.{first_some, is_accept, own, own_next}
+use Rattle.rs_store.specs.Stores.{entry_at as carried_entry}
+use Rattle.rs_store.proofs.FormLaws.{formed_store}
+use Rattle.rs_store.proofs.Verdicts.{formed_carried}
+use Rattle.rs_part.specs.Items.{kept_items, no_items}
+use Rattle.rs_part.specs.Parts.{Part, at}
+use Rattle.rs_part.specs.Scripts.{Birth, IsPart, Never, Opened, Script, SplitOff, begun, child_by, child_of, child_with, found}
+use Rattle.rs_part.specs.Settled.{IsMade}
+use Rattle.rs_part.proofs.Children.{children_born}
+use Rattle.rs_part.proofs.Cutting.{all_both, all_ids, each_id, find_each}
+use Rattle.rs_part.proofs.Laws.{at_birth}
+use Rattle.rs_part.proofs.Reached.{reached_is_at}
+use Rattle.rs_part.proofs.Members.{among_all}
+use Rattle.rs_part.proofs.Origins.{boot_birth, last_boots, last_origins, origin_of}
 use Rattle.rs_check.specs.declared.plan.Maker.TheVariants as makers
 use Rattle.rs_check.specs.Laws.{check}
 use Rattle.rs_check.specs.Lawfulness.{Accepted, Born}

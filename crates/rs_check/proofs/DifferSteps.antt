@@ -5,8 +5,8 @@ use Rattle.std.specs.List.{find}
 use Rattle.std.specs.Option.{option_or}
 use Rattle.std.proofs.lemmas.Bool.{eqb-true}
 use Rattle.std.proofs.lemmas.List.Folds.{find-append}
-use Rattle.rs_order.specs.Stores.{first_some}
-use Rattle.rs_order.specs.Places.{Places, with_place}
+use Rattle.rs_store.specs.Stores.{first_some}
+use Rattle.rs_store.specs.Places.{Places, with_place}
 use Rattle.rs_check.specs.Statements.{Stated, same_statements, is_about, differ_from, first_differ, at_place}
 
 take_at : (xs : List Stated) (i : ℕ) (s : Stated) → slice_get xs i ≡ Some s → take (suc i) xs ≡ take i xs ++ s ∷ []

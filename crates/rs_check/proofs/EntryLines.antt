@@ -7,17 +7,17 @@ use Rattle.rs_entry.specs.declared.entry.Carried.{Carried}
 use Rattle.rs_entry.specs.declared.entry.Entry.{Entry}
 use Rattle.rs_entry.specs.declared.input.Log.{Log}
 use Rattle.rs_entry.specs.declared.input.Store.{Store}
-use Rattle.rs_order.specs.declared.regions.Made.{Made}
-use Rattle.rs_order.specs.Stores.{Applied, Went, entry_at, first_some, ids_of, last, next, opening, own, own_next, step}
-use Rattle.rs_value.specs.Counting.{IsAmong}
-use Rattle.rs_value.specs.Effects.{Stepping}
-use Rattle.rs_value.specs.Scripts.{Script}
-use Rattle.rs_value.specs.Telling.{Begins, Tells}
-use Rattle.rs_value.proofs.Endings.{last_has}
-use Rattle.rs_value.proofs.Known.{Brought, brought, next_cases, own_among}
-use Rattle.rs_value.proofs.Members.{among_get}
-use Rattle.rs_value.proofs.Opening.{opening_normal}
-use Rattle.rs_value.proofs.Traces.{step_traces}
+use Rattle.rs_store.specs.declared.regions.Made.{Made}
+use Rattle.rs_store.specs.Stores.{Applied, Went, entry_at, first_some, ids_of, last, next, opening, own, own_next, step}
+use Rattle.rs_part.specs.Counting.{IsAmong}
+use Rattle.rs_part.specs.Effects.{Stepping}
+use Rattle.rs_part.specs.Scripts.{Script}
+use Rattle.rs_part.specs.Telling.{Begins, Tells}
+use Rattle.rs_part.proofs.Endings.{last_has}
+use Rattle.rs_part.proofs.Known.{Brought, brought, next_cases, own_among}
+use Rattle.rs_part.proofs.Members.{among_get}
+use Rattle.rs_part.proofs.Opening.{opening_normal}
+use Rattle.rs_part.proofs.Traces.{step_traces}
 use Rattle.rs_check.specs.Lines.{carried_at, carried_by, carried_in, entry_in}
 use Rattle.rs_check.proofs.Finding.{find_some}
 

@@ -3,8 +3,8 @@ use Rattle.std.proofs.Common.{◌≡◌, ℕ, ◌<◌, ◌==◌, arith, subst, B
 use Rattle.std.specs.List.{find, flat_map, list_any, AllByRecursion}
 use Rattle.std.proofs.lemmas.Bool.{both_ways, eq-eqb, ne_eqb}
 use Rattle.rs_entry.specs.WellFormed.{Rising}
-use Rattle.rs_order.specs.Stores.{first_some}
-use Rattle.rs_value.specs.Counting.{IsAmong}
+use Rattle.rs_store.specs.Stores.{first_some}
+use Rattle.rs_part.specs.Counting.{IsAmong}
 
 -- where something in an appended list, a map or a flat map comes from
 pub from_append : {A : Type 0} (x : A) (xs ys : List A) → IsAmong x (xs ++ ys) → IsAmong x xs ⊎ IsAmong x ys

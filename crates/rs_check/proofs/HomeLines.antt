@@ -13,9 +13,9 @@ use Rattle.rs_entry.specs.declared.entry.Entry.{Entry}
 use Rattle.rs_entry.specs.declared.input.Input.{Input}
 use Rattle.rs_entry.specs.declared.input.Log.{Log}
 use Rattle.rs_entry.specs.declared.input.Store.{Store}
-use Rattle.rs_order.specs.Stores.{entries_of, entry_at, first_some, own, own_next}
-use Rattle.rs_value.specs.Counting.{IsAmong}
-use Rattle.rs_value.proofs.Members.{among_all, among_get}
+use Rattle.rs_store.specs.Stores.{entries_of, entry_at, first_some, own, own_next}
+use Rattle.rs_part.specs.Counting.{IsAmong}
+use Rattle.rs_part.proofs.Members.{among_all, among_get}
 use Rattle.rs_check.specs.Laws.{check}
 use Rattle.rs_check.specs.Lines.{Carries, CarriesIn, HasEntry, Owns, carried_at, carried_by, entry_in, line_at}
 use Rattle.rs_check.specs.Scripts.{script_of}

@@ -7,12 +7,12 @@ use Rattle.std.proofs.lemmas.List.Folds.{list_any-append}
 use Rattle.std.proofs.lemmas.List.{map-append}
 use Rattle.std.proofs.lemmas.Grind.{flat_map-append}
 use Rattle.rs_entry.specs.declared.input.Boot.{Boot}
-use Rattle.rs_order.specs.Stores.{first_some}
+use Rattle.rs_store.specs.Stores.{first_some}
 use Rattle.rs_check.specs.Statements.{Stated}
 use Rattle.rs_check.specs.Laws.{least, lesser, is_id, Named, is_named, is_reused, reused_id, naming, names_in, reused_in, first_reused}
 use Rattle.rs_check.specs.Namings.{Namings, with_naming, with_namings, is_other, is_there, is_reused_at, reused_by}
-use Rattle.rs_order.proofs.Folds.{drop_here}
-use Rattle.rs_order.proofs.Loops.{take_here}
+use Rattle.rs_store.proofs.Folds.{drop_here}
+use Rattle.rs_store.proofs.Loops.{take_here}
 
 pub least_more : (best : Option (Boot × Boot)) (xs ys : List (Boot × Boot)) → least best (xs ++ ys) ≡ least (least best xs) ys
 least_more best [] ys = refl

@@ -4,9 +4,9 @@ use Rattle.rs_entry.specs.declared.entry.Entry.{Entry}
 use Rattle.rs_entry.specs.declared.input.Store.{Store}
 use Rattle.rs_entry.specs.declared.input.Input.{Input}
 use Rattle.rs_entry.specs.WellFormed.{WellFormed}
-use Rattle.rs_order.specs.Stores.{first_some}
-use Rattle.rs_value.specs.Counting.{IsAmong}
-use Rattle.rs_value.specs.Telling.{Tells, Begins}
+use Rattle.rs_store.specs.Stores.{first_some}
+use Rattle.rs_part.specs.Counting.{IsAmong}
+use Rattle.rs_part.specs.Telling.{Tells, Begins}
 use Rattle.rs_check.specs.Laws.{check, boots, differ_fault, differ_law, overlap_fault, first_overlap, overlap_law, reused_law, first_in_stores}
 use Rattle.rs_check.specs.Lines.{line_at}
 use Rattle.rs_check.specs.Statements.{stated, first_differ}

@@ -7,10 +7,10 @@ use Rattle.rs_entry.specs.declared.entry.Entry.{Entry}
 use Rattle.rs_entry.specs.declared.input.Input.{Input}
 use Rattle.rs_entry.specs.declared.outcome.Mode.{Mode}
 use Rattle.rs_entry.specs.declared.outcome.Mode.TheVariants as mode
-use Rattle.rs_order.specs.Stores.{is_unmerged}
-use Rattle.rs_value.specs.Parts.{Part, mode_before, part_of}
-use Rattle.rs_value.specs.Scripts.{IsPart}
-use Rattle.rs_value.proofs.Parts.{one_part}
+use Rattle.rs_store.specs.Stores.{is_unmerged}
+use Rattle.rs_part.specs.Parts.{Part, mode_before, part_of}
+use Rattle.rs_part.specs.Scripts.{IsPart}
+use Rattle.rs_part.proofs.Parts.{one_part}
 use Rattle.rs_check.specs.Laws.{check}
 use Rattle.rs_check.specs.Lawfulness.{Accepted, Source, Target}
 use Rattle.rs_check.specs.Plans.{ends_in, ends_of, stop_in, stop_of}

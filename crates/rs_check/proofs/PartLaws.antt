@@ -4,17 +4,17 @@ use Rattle.rs_key.specs.Ranges.{holds}
 use Rattle.rs_entry.specs.WellFormed.{WellFormed}
 use Rattle.rs_entry.specs.declared.entry.Entry.{Entry}
 use Rattle.rs_entry.specs.declared.input.Input.{Input}
-use Rattle.rs_order.specs.Stores.{entries_in}
-use Rattle.rs_order.proofs.FormLaws.{formed_store}
-use Rattle.rs_value.specs.Items.{no_items}
-use Rattle.rs_value.specs.Parts.{Part, at}
-use Rattle.rs_value.specs.Scripts.{IsPart}
-use Rattle.rs_value.proofs.Insides.{at_inside}
-use Rattle.rs_value.proofs.LiveParts.{IsLivePart, part_live}
-use Rattle.rs_value.proofs.Moments.{at_is_part}
-use Rattle.rs_value.proofs.Parts.{one_part}
-use Rattle.rs_value.proofs.Reached.{reached_is_at}
-use Rattle.rs_value.proofs.SmallParts.{at_small, last_within}
+use Rattle.rs_store.specs.Stores.{entries_in}
+use Rattle.rs_store.proofs.FormLaws.{formed_store}
+use Rattle.rs_part.specs.Items.{no_items}
+use Rattle.rs_part.specs.Parts.{Part, at}
+use Rattle.rs_part.specs.Scripts.{IsPart}
+use Rattle.rs_part.proofs.Insides.{at_inside}
+use Rattle.rs_part.proofs.LiveParts.{IsLivePart, part_live}
+use Rattle.rs_part.proofs.Moments.{at_is_part}
+use Rattle.rs_part.proofs.Parts.{one_part}
+use Rattle.rs_part.proofs.Reached.{reached_is_at}
+use Rattle.rs_part.proofs.SmallParts.{at_small, last_within}
 use Rattle.rs_check.specs.Laws.{check}
 use Rattle.rs_check.specs.Lawfulness.{StoresAgree}
 use Rattle.rs_check.specs.Plans.{address_of, stop_of}

@@ -6,12 +6,12 @@ use Rattle.std.specs.List.{filter_map}
 use Rattle.std.proofs.lemmas.List.Elements.{filter_map-append}
 use Rattle.rs_entry.specs.declared.input.Store.{Store}
 use Rattle.rs_check.specs.declared.rows.Row.{Row}
-use Rattle.rs_order.specs.declared.regions.Made.{Made}
-use Rattle.rs_order.specs.Stores.{ByRegion, Stepped, Went, Broke, ids_of, last}
-use Rattle.rs_order.specs.Runs.{forget, Moved}
+use Rattle.rs_store.specs.declared.regions.Made.{Made}
+use Rattle.rs_store.specs.Stores.{ByRegion, Stepped, Went, Broke, ids_of, last}
+use Rattle.rs_store.specs.Runs.{forget, Moved}
 use Rattle.rs_check.specs.Plans.{row_of, rows_in, rows_at, rows_by, store_rows}
-use Rattle.rs_order.proofs.Loops.{take_here}
-use Rattle.rs_order.proofs.Rising.{get_or_any}
+use Rattle.rs_store.proofs.Loops.{take_here}
+use Rattle.rs_store.proofs.Rising.{get_or_any}
 use Rattle.rs_check.proofs.LawSteps.{nil_right}
 
 pub rows_end : (store : Store) (s : Stepped) → rows_at store s ≡ rows_by store (forget s)

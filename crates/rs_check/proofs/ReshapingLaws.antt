@@ -4,9 +4,9 @@ use Rattle.rs_entry.specs.WellFormed.{WellFormed}
 use Rattle.rs_entry.specs.declared.entry.Entry.{Entry}
 use Rattle.rs_entry.specs.declared.input.Input.{Input}
 use Rattle.rs_region.specs.Verdicts.{verdict}
-use Rattle.rs_order.specs.Stores.{is_accept, is_reshaping}
-use Rattle.rs_value.specs.Parts.{Part}
-use Rattle.rs_value.proofs.Reshapings.{AreCounted, count_none, count_to, counted_by, last_counted}
+use Rattle.rs_store.specs.Stores.{is_accept, is_reshaping}
+use Rattle.rs_part.specs.Parts.{Part}
+use Rattle.rs_part.proofs.Reshapings.{AreCounted, count_none, count_to, counted_by, last_counted}
 use Rattle.rs_check.specs.Laws.{check}
 use Rattle.rs_check.specs.Plans.{stop_of}
 use Rattle.rs_check.specs.Scripts.{script_of}

@@ -2,7 +2,7 @@
 use Rattle.std.proofs.Common.{◌≡◌, ℕ, ◌==◌, Bool, true, ◌&&◌, List, [], ◌∷◌, Option, Some, None, nat_eq, refl, ap, ◌∙◌}
 use Rattle.std.proofs.lemmas.Bool.{and_parts, eqb-true}
 use Rattle.rs_key.specs.Keys.{same_bytes}
-use Rattle.rs_key.specs.Lists.{same_lists, same_options}
+use Rattle.rs_rows.specs.Lists.{same_lists, same_options}
 use Rattle.rs_key.specs.Epochs.{same_epochs}
 use Rattle.rs_key.specs.Ranges.{Bounds, same_bounds}
 use Rattle.rs_key.specs.declared.epoch.Epoch.{Epoch}

@@ -11,9 +11,9 @@ use Rattle.rs_entry.specs.declared.entry.Entry.{Entry}
 use Rattle.rs_entry.specs.declared.input.Log.{Log}
 use Rattle.rs_entry.specs.declared.input.Store.{Store}
 use Rattle.rs_entry.specs.declared.input.Input.{Input}
-use Rattle.rs_order.specs.Stores.{first_some, own, own_next, entry_at}
-use Rattle.rs_value.specs.Counting.{IsAmong}
-use Rattle.rs_value.proofs.Members.{among_find}
+use Rattle.rs_store.specs.Stores.{first_some, own, own_next, entry_at}
+use Rattle.rs_part.specs.Counting.{IsAmong}
+use Rattle.rs_part.proofs.Members.{among_find}
 use Rattle.rs_check.specs.Lines.{carried_by, carried_in, carried_at, entry_in, line_in, line_at}
 use Rattle.rs_check.specs.Statements.{stated, first_differ}
 use Rattle.rs_check.specs.Scripts.{script_of}

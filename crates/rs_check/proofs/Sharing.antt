@@ -8,7 +8,7 @@ use Rattle.rs_key.specs.Keys.{is_below, is_key}
 use Rattle.rs_key.specs.Ranges.{Bounds, holds, is_to}
 use Rattle.rs_key.proofs.RangeLaws.{below_trans}
 use Rattle.rs_region.proofs.KeyOrder.{below_irreflexive, below_total, not_above, lies_in, holds_is}
-use Rattle.rs_value.specs.Ranges.{Apart}
+use Rattle.rs_part.specs.Ranges.{Apart}
 use Rattle.rs_check.specs.Laws.{or_least, share_a_key}
 use Rattle.rs_check.proofs.Finding.{or_none}
 

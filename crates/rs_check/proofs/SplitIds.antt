@@ -3,9 +3,9 @@ use Rattle.std.proofs.Common.{◌≡◌, ℕ, ◌==◌, Bool, true, false, not, 
 use Rattle.std.specs.List.{find, list_any, AllByRecursion}
 use Rattle.std.proofs.lemmas.Bool.{both_ways, and_parts, or_left, or_right, not-false, eqb-true, eq-eqb}
 use Rattle.std.proofs.lemmas.List.Folds.{list_any-append}
-use Rattle.rs_value.specs.Counting.{IsAmong}
-use Rattle.rs_value.specs.Ranges.{EachOther}
-use Rattle.rs_value.proofs.Members.{among_left, among_right}
+use Rattle.rs_part.specs.Counting.{IsAmong}
+use Rattle.rs_part.specs.Ranges.{EachOther}
+use Rattle.rs_part.proofs.Members.{among_left, among_right}
 use Rattle.rs_check.specs.Statements.{Stated}
 use Rattle.rs_check.specs.Laws.{Named, naming, names_in, is_id, is_named, is_reused, reused_id, ids_said, reused_at, reused_in, first_reused}
 use Rattle.rs_check.specs.Scripts.{names}

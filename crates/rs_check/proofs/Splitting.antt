@@ -16,12 +16,12 @@ use Rattle.rs_entry.specs.declared.input.Input.{Input}
 use Rattle.rs_entry.specs.declared.law_fault.Statement.{Statement}
 use Rattle.rs_entry.specs.declared.law_fault.Statement.TheVariants as said
 use Rattle.rs_entry.specs.WellFormed.{WellFormed}
-use Rattle.rs_order.specs.Stores.{ids_in}
-use Rattle.rs_value.specs.Counting.{IsAmong}
-use Rattle.rs_value.specs.Ranges.{EachOther}
-use Rattle.rs_value.specs.Scripts.{SplitOff}
-use Rattle.rs_value.specs.Telling.{Tells}
-use Rattle.rs_value.proofs.Members.{among_find}
+use Rattle.rs_store.specs.Stores.{ids_in}
+use Rattle.rs_part.specs.Counting.{IsAmong}
+use Rattle.rs_part.specs.Ranges.{EachOther}
+use Rattle.rs_part.specs.Scripts.{SplitOff}
+use Rattle.rs_part.specs.Telling.{Tells}
+use Rattle.rs_part.proofs.Members.{among_find}
 use Rattle.rs_check.specs.Laws.{boots, is_id, ids_said, reused_law}
 use Rattle.rs_check.specs.Statements.{Stated, stated, is_about, first_differ, store_stated, log_stated, entry_stated, carried_stated, of_boot, of_carried}
 use Rattle.rs_check.specs.Scripts.{script_of, line_by, entry_said, names, birth_by, split_birth}

@@ -10,12 +10,12 @@ use Rattle.rs_entry.specs.declared.input.Input.{Input}
 use Rattle.rs_entry.specs.declared.outcome.Mode.TheVariants as mode
 use Rattle.rs_region.specs.Verdicts.{verdict}
 use Rattle.rs_region.specs.declared.verdict.Verdict.TheVariants as verdicts
-use Rattle.rs_order.specs.declared.regions.Made.{Made}
-use Rattle.rs_value.specs.Parts.{Part}
-use Rattle.rs_value.specs.Scripts.{after_by}
-use Rattle.rs_value.specs.Settled.{Commits}
-use Rattle.rs_value.proofs.Laws.{HasSource, at_next}
-use Rattle.rs_value.proofs.Reached.{reached_is_at}
+use Rattle.rs_store.specs.declared.regions.Made.{Made}
+use Rattle.rs_part.specs.Parts.{Part}
+use Rattle.rs_part.specs.Scripts.{after_by}
+use Rattle.rs_part.specs.Settled.{Commits}
+use Rattle.rs_part.proofs.Laws.{HasSource, at_next}
+use Rattle.rs_part.proofs.Reached.{reached_is_at}
 use Rattle.rs_check.specs.Laws.{check}
 use Rattle.rs_check.specs.Plans.{stop_of}
 use Rattle.rs_check.specs.Scripts.{script_of}

@@ -5,14 +5,14 @@ use Rattle.std.proofs.lemmas.List.Elements.{recursion_from_All}
 use Rattle.rs_entry.specs.declared.input.Input.{Input}
 use Rattle.rs_entry.specs.declared.input.Store.{Store}
 use Rattle.rs_entry.specs.WellFormed.{WellFormed}
-use Rattle.rs_order.specs.Ends.{fault_at_end}
-use Rattle.rs_order.specs.Formed.{IsFormedOne}
-use Rattle.rs_order.specs.Stores.{Applied, Broke, Stepped, Went, entries_in, first_some, last}
-use Rattle.rs_value.specs.Counting.{IsAmong}
-use Rattle.rs_value.specs.Telling.{Begins, Tells}
-use Rattle.rs_value.specs.Whole.{Invariant}
-use Rattle.rs_value.proofs.Canonical.{after_invariant}
-use Rattle.rs_value.proofs.Members.{among_all}
+use Rattle.rs_store.specs.Ends.{fault_at_end}
+use Rattle.rs_store.specs.Formed.{IsFormedOne}
+use Rattle.rs_store.specs.Stores.{Applied, Broke, Stepped, Went, entries_in, first_some, last}
+use Rattle.rs_part.specs.Counting.{IsAmong}
+use Rattle.rs_part.specs.Telling.{Begins, Tells}
+use Rattle.rs_part.specs.Whole.{Invariant}
+use Rattle.rs_part.proofs.Canonical.{after_invariant}
+use Rattle.rs_part.proofs.Members.{among_all}
 use Rattle.rs_check.specs.Laws.{check, differ_law, first_in_stores, law_of, overlap_law, reused_law, store_law}
 use Rattle.rs_check.specs.Scripts.{script_of}
 use Rattle.rs_check.proofs.Finding.{both_none, map_none}

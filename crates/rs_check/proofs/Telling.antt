@@ -13,11 +13,11 @@ use Rattle.rs_entry.specs.declared.input.Input.{Input}
 use Rattle.rs_entry.specs.WellFormed.{WellFormed}
 use Rattle.rs_entry.specs.declared.law_fault.Statement.{Statement}
 use Rattle.rs_entry.specs.declared.law_fault.Statement.TheVariants as said
-use Rattle.rs_order.specs.Stores.{Applied, ids_of, next, own, own_next}
-use Rattle.rs_order.specs.declared.regions.Made.{Made}
-use Rattle.rs_value.specs.Counting.{IsAmong}
-use Rattle.rs_value.proofs.Known.{Brought, brought, next_cases, own_among}
-use Rattle.rs_value.proofs.Members.{among_right, among_map, among_flat, among_get}
+use Rattle.rs_store.specs.Stores.{Applied, ids_of, next, own, own_next}
+use Rattle.rs_store.specs.declared.regions.Made.{Made}
+use Rattle.rs_part.specs.Counting.{IsAmong}
+use Rattle.rs_part.proofs.Known.{Brought, brought, next_cases, own_among}
+use Rattle.rs_part.proofs.Members.{among_right, among_map, among_flat, among_get}
 use Rattle.rs_check.specs.Statements.{Stated, stated, store_stated, log_stated, entry_stated, carried_stated, of_boot, of_carried, is_about, differ_from, first_differ, same_statements}
 use Rattle.rs_check.specs.Scripts.{script_of, line_by, entry_said}
 use Rattle.rs_check.proofs.Finding.{find_front, find_behind, both_none}

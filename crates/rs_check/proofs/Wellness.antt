@@ -10,10 +10,10 @@ use Rattle.rs_entry.specs.declared.input.Log.{Log}
 use Rattle.rs_entry.specs.declared.input.Store.{Store}
 use Rattle.rs_entry.specs.declared.input.Input.{Input}
 use Rattle.rs_entry.specs.WellFormed.{WellFormed, Rising, IsStore, AreEntries, IsBody}
-use Rattle.rs_order.specs.Formed.{IsFormedLog, IsFormedOne, IsFormedInput, steps_of}
-use Rattle.rs_order.specs.Indexes.{AreRising, log_ids}
-use Rattle.rs_order.specs.Runs.{IsFormed}
-use Rattle.rs_order.specs.Stores.{entries_in}
+use Rattle.rs_store.specs.Formed.{IsFormedLog, IsFormedOne, IsFormedInput, steps_of}
+use Rattle.rs_store.specs.Indexes.{AreRising, log_ids}
+use Rattle.rs_store.specs.Runs.{IsFormed}
+use Rattle.rs_store.specs.Stores.{entries_in}
 
 formed_body : (version : ℕ) (b : Body) → IsBody version b → IsFormed b
 formed_body version body.Empty h = tt

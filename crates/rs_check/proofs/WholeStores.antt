@@ -11,11 +11,11 @@ use Rattle.rs_entry.specs.declared.input.Log.{Log}
 use Rattle.rs_entry.specs.declared.input.Store.{Store}
 use Rattle.rs_entry.specs.declared.input.Input.{Input}
 use Rattle.rs_entry.specs.WellFormed.{WellFormed, Rising, IsStore, IsBoot, IsBody, IsKey, AreEntries}
-use Rattle.rs_order.specs.Stores.{own, entries_of}
-use Rattle.rs_value.specs.Counting.{IsAmong}
-use Rattle.rs_value.specs.Ranges.{EachId}
-use Rattle.rs_value.specs.Telling.{boot_states}
-use Rattle.rs_value.proofs.Members.{among_find, among_all}
+use Rattle.rs_store.specs.Stores.{own, entries_of}
+use Rattle.rs_part.specs.Counting.{IsAmong}
+use Rattle.rs_part.specs.Ranges.{EachId}
+use Rattle.rs_part.specs.Telling.{boot_states}
+use Rattle.rs_part.proofs.Members.{among_find, among_all}
 use Rattle.rs_check.proofs.Sharing.{IsBound}
 
 is_store : (input : Input) → WellFormed input → (store : Store) → IsAmong store input.stores → IsStore input.version store

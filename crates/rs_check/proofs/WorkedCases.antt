@@ -16,15 +16,15 @@ use Rattle.rs_entry.specs.declared.law_fault.Statement.TheVariants as said
 use Rattle.rs_entry.specs.declared.law_fault.LawFault.TheVariants as laws
 use Rattle.rs_entry.specs.declared.outcome.Mode.{Mode}
 use Rattle.rs_entry.specs.declared.outcome.Mode.TheVariants as mode
-use Rattle.rs_order.specs.declared.regions.Origin.{Origin}
-use Rattle.rs_order.specs.declared.regions.Origin.TheVariants as origins
+use Rattle.rs_store.specs.declared.regions.Origin.{Origin}
+use Rattle.rs_store.specs.declared.regions.Origin.TheVariants as origins
 use Rattle.rs_check.specs.declared.plan.Maker.TheVariants as makers
 use Rattle.rs_check.specs.Laws.{check, store_law}
 use Rattle.rs_check.specs.declared.rows.Row.{Row}
 use Rattle.rs_check.specs.Plans.{rows_of, store_rows, maker_of}
 use Rattle.rs_check.specs.Lines.{line_at}
 use Rattle.rs_check.specs.Scripts.{script_of}
-use Rattle.rs_value.specs.Scripts.{Never, Opened, SplitOff}
+use Rattle.rs_part.specs.Scripts.{Never, Opened, SplitOff}
 
 -- ---- short forms
 

@@ -14,10 +14,10 @@ use Rattle.rs_region.specs.Verdicts.{verdict}
 use Rattle.rs_region.specs.Reshapings.{boot, split_new}
 use Rattle.rs_region.specs.declared.state.RegionState.{RegionState}
 use Rattle.rs_region.specs.declared.verdict.Verdict.TheVariants as verdicts
-use Rattle.rs_order.specs.Stores.{is_accept, is_live, is_reshaping}
-use Rattle.rs_value.specs.Items.{no_items, kept_items}
-use Rattle.rs_value.specs.Parts.{Part, mode_before}
-use Rattle.rs_value.specs.Scripts.{after_by}
+use Rattle.rs_store.specs.Stores.{is_accept, is_live, is_reshaping}
+use Rattle.rs_part.specs.Items.{no_items, kept_items}
+use Rattle.rs_part.specs.Parts.{Part, mode_before}
+use Rattle.rs_part.specs.Scripts.{after_by}
 use Rattle.rs_check.specs.declared.plan.Maker.TheVariants as makers
 use Rattle.rs_check.specs.Plans.{rows_of, is_at, address_of, stop_of, ends_of, maker_of}
 use Rattle.rs_check.specs.Values.{count_of, region_of, store_at, part_on, part_at, entry_at, reshaped_by}

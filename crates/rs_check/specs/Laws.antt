@@ -8,14 +8,14 @@ use Rattle.rs_entry.specs.declared.input.Store.{Store}
 use Rattle.rs_entry.specs.declared.input.Input.{Input}
 use Rattle.rs_entry.specs.declared.law_fault.Statement.{Statement}
 use Rattle.rs_entry.specs.declared.law_fault.Statement.TheVariants as said
-use Rattle.rs_order.specs.declared.fault.StepFault.{StepFault}
-use Rattle.rs_order.specs.declared.fault.StepFault.TheVariants as steps
-use Rattle.rs_order.specs.declared.fault.StoreFault.{StoreFault}
-use Rattle.rs_order.specs.declared.fault.StoreFault.TheVariants as ends
+use Rattle.rs_store.specs.declared.fault.StepFault.{StepFault}
+use Rattle.rs_store.specs.declared.fault.StepFault.TheVariants as steps
+use Rattle.rs_store.specs.declared.fault.StoreFault.{StoreFault}
+use Rattle.rs_store.specs.declared.fault.StoreFault.TheVariants as ends
 use Rattle.rs_entry.specs.declared.law_fault.LawFault.{LawFault}
 use Rattle.rs_entry.specs.declared.law_fault.LawFault.TheVariants as laws
-use Rattle.rs_order.specs.Stores.{first_some, ids_in, last}
-use Rattle.rs_order.specs.Ends.{fault_at_end}
+use Rattle.rs_store.specs.Stores.{first_some, ids_in, last}
+use Rattle.rs_store.specs.Ends.{fault_at_end}
 use Rattle.rs_check.specs.Statements.{Stated, stated, first_differ}
 
 -- ---- differ

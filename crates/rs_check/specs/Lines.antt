@@ -9,8 +9,8 @@ use Rattle.rs_entry.specs.declared.input.Log.{Log}
 use Rattle.rs_entry.specs.declared.input.Store.{Store}
 use Rattle.rs_entry.specs.declared.input.Input.{Input}
 use Rattle.rs_entry.specs.Entries.{entry_of}
-use Rattle.rs_order.specs.Stores.{first_some, own, own_next, entry_at}
-use Rattle.rs_value.specs.Counting.{IsAmong}
+use Rattle.rs_store.specs.Stores.{first_some, own, own_next, entry_at}
+use Rattle.rs_part.specs.Counting.{IsAmong}
 
 abbrev pub carried_by : ℕ → ℕ → Body → Option Carried
 carried_by region index (body.Commit source commit carried) = if source == region then find (λ c. c.index == index) carried else None

@@ -3,7 +3,7 @@ use Rattle.std.specs.Prelude.{ℕ, ◌==◌, ◌&&◌, ◌||◌, not, Bool, true
 use Rattle.std.specs.Ordering.{nat_cmp}
 use Rattle.std.specs.BTreeMap.{get}
 use Rattle.std.specs.List.{list_any}
-use Rattle.rs_check.specs.declared.reused.Namers.{Namers}
+use Rattle.rs_check.specs.declared.reused_ids.Namers.{Namers}
 use Rattle.rs_check.specs.Laws.{is_id}
 
 -- which split named an id first

@@ -3,19 +3,19 @@ use Rattle.std.specs.Prelude.{ℕ, slice_get, position, ◌==◌, ltb, ◌&&◌,
 use Rattle.std.specs.List.{AllByRecursion, flat_map, filter_map}
 use Rattle.rs_entry.specs.declared.input.Input.{Input}
 use Rattle.rs_entry.specs.declared.input.Store.{Store}
-use Rattle.rs_order.specs.declared.regions.Made.{Made}
+use Rattle.rs_store.specs.declared.regions.Made.{Made}
 use Rattle.rs_check.specs.declared.rows.Row.{Row}
 use Rattle.rs_check.specs.declared.plan.Maker.{Maker}
 use Rattle.rs_check.specs.declared.plan.Maker.TheVariants as makers
 use Rattle.rs_entry.specs.declared.outcome.Mode.{Mode}
 use Rattle.rs_entry.specs.declared.outcome.Mode.TheVariants as modes
-use Rattle.rs_order.specs.declared.regions.Origin.{Origin}
-use Rattle.rs_order.specs.declared.regions.Origin.TheVariants as origins
-use Rattle.rs_check.specs.declared.checks.CheckError.{CheckError}
-use Rattle.rs_check.specs.declared.checks.CheckError.TheVariants as errors
+use Rattle.rs_store.specs.declared.regions.Origin.{Origin}
+use Rattle.rs_store.specs.declared.regions.Origin.TheVariants as origins
+use Rattle.rs_check.specs.declared.log_check.CheckError.{CheckError}
+use Rattle.rs_check.specs.declared.log_check.CheckError.TheVariants as errors
 use Rattle.rs_check.specs.Laws.{check}
-use Rattle.rs_order.specs.Runs.{Run, Moved, Failed}
-use Rattle.rs_order.specs.Stores.{own, ByRegion, Stepped, Went, Broke, ids_of, last}
+use Rattle.rs_store.specs.Runs.{Run, Moved, Failed}
+use Rattle.rs_store.specs.Stores.{own, ByRegion, Stepped, Went, Broke, ids_of, last}
 
 -- what a plan keeps of a region that was made
 abbrev pub row_of : Store → ℕ → Option Made → Option Row

@@ -7,7 +7,7 @@ use Rattle.rs_entry.specs.declared.input.Input.{Input}
 use Rattle.rs_entry.specs.declared.law_fault.Statement.{Statement}
 use Rattle.rs_entry.specs.declared.law_fault.Statement.TheVariants as said
 use Rattle.rs_entry.specs.Entries.{entry_of}
-use Rattle.rs_value.specs.Scripts.{Birth, Never, Opened, SplitOff, Script}
+use Rattle.rs_part.specs.Scripts.{Birth, Never, Opened, SplitOff, Script}
 use Rattle.rs_check.specs.Statements.{Stated, stated, is_about}
 use Rattle.rs_check.specs.Laws.{boots, ids_said, is_id}
 

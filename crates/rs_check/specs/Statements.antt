@@ -13,7 +13,7 @@ use Rattle.rs_entry.specs.declared.law_fault.Statement.{Statement}
 use Rattle.rs_entry.specs.declared.law_fault.Statement.TheVariants as said
 use Rattle.rs_entry.specs.Entries.{entry_of}
 use Rattle.rs_entry.specs.Equality.{same_entries, same_carried, same_boots}
-use Rattle.rs_order.specs.Stores.{first_some}
+use Rattle.rs_store.specs.Stores.{first_some}
 use Rattle.rs_check.specs.declared.statements.What.{What}
 use Rattle.rs_check.specs.declared.statements.What.TheVariants as whats
 use Rattle.rs_check.specs.declared.differ.Differing.{Differing}

@@ -2,7 +2,7 @@
 use Rattle.std.specs.Prelude.{ℕ, ◌&&◌, Bool, List, Option, Some, None, find}
 use Rattle.rs_key.specs.Ranges.{holds}
 use Rattle.rs_region.specs.declared.state.RegionState.{RegionState}
-use Rattle.rs_order.specs.Stores.{is_live}
+use Rattle.rs_store.specs.Stores.{is_live}
 
 -- a live region that holds the key
 abbrev pub owns : List ℕ → RegionState → Bool

@@ -7,8 +7,8 @@ use Rattle.rs_entry.specs.declared.input.Store.{Store}
 use Rattle.rs_entry.specs.declared.outcome.Reply.{Reply}
 use Rattle.rs_entry.specs.declared.outcome.ReplyLine.{ReplyLine}
 use Rattle.rs_region.specs.Verdicts.{verdict}
-use Rattle.rs_order.specs.Stores.{reply_to}
-use Rattle.rs_value.specs.Parts.{Part, at}
+use Rattle.rs_store.specs.Stores.{reply_to}
+use Rattle.rs_part.specs.Parts.{Part, at}
 use Rattle.rs_check.specs.Lines.{line_at}
 use Rattle.rs_check.specs.Plans.{rows_of, address_of, reshapings_of}
 

@@ -1,13 +1,13 @@
 ghost use Rattle.std.specs.Prelude.{◌≡◌, ℕ, ◌+◌, ◌<◌, ◌≤◌, Option, Some, None, IfOk, [], length};
 ghost use Rattle.std.specs.Option.{option_map};
-ghost use Rattle.rs_order.specs.Places.{known};
+ghost use Rattle.rs_store.specs.Places.{known};
 ghost use Rattle.rs_check.specs.Statements.{same_statements, first_differ, told_pair};
 ghost use Rattle.rs_check.specs.Laws.{differ_fault};
 
 use crate::statements::{Said, is_same, statement_of};
 use rs_entry::LawFault;
 use rs_key::NoMemory;
-use rs_order::PlaceMap;
+use rs_store::PlaceMap;
 use std::alloc::Global;
 
 /// The places of two statements that differ.

@@ -5,18 +5,18 @@
 //! docs/RULES.md tells the faults and their order.
 #![tactic(auto)]
 
-mod checks;
 mod differ;
-mod homes;
-mod lines;
+mod entry_index;
+mod entry_scan;
+mod log_check;
 mod overlap;
 mod plan;
-mod reused;
+mod region_table;
+mod reused_ids;
 mod rows;
 mod statements;
-mod table;
 
-pub use checks::{CheckError, check};
+pub use log_check::{CheckError, check};
 pub use plan::{Maker, Plan};
-pub use rs_order::Line;
-pub use table::RegionTable;
+pub use region_table::RegionTable;
+pub use rs_store::Line;

@@ -1,18 +1,18 @@
 ghost use Rattle.std.specs.Prelude.{◌≡◌, ℕ, ◌+◌, ◌-◌, ◌<◌, ◌≤◌, ◌^◌, Option, Some, None, length, slice_get, IfOk, IfSome, position};
 ghost use Rattle.std.specs.Option.{option_copied, option_map};
 ghost use Rattle.rs_entry.specs.WellFormed.{WellFormed};
-ghost use Rattle.rs_order.specs.Runs.{IsFormed, line_entry};
+ghost use Rattle.rs_store.specs.Runs.{IsFormed, line_entry};
 ghost use Rattle.rs_check.specs.Laws.{check};
 ghost use Rattle.rs_check.specs.Lawfulness.{PlanLaws, StoresAgree};
 ghost use Rattle.rs_check.specs.Lines.{line_at};
 ghost use Rattle.rs_check.specs.Plans.{rows_of, is_at, stop_of, own_of, ends_of, maker_of, address_of, reshapings_of, made_by};
 
-use crate::homes::{Home, homes_of, line_near};
-use crate::lines::line_of;
+use crate::entry_index::{Home, homes_of, line_near};
+use crate::entry_scan::line_of;
 use crate::rows::{Row, place_of};
 use rs_entry::{Input, Mode, Store};
 use rs_key::NoMemory;
-use rs_order::{Line, Origin};
+use rs_store::{Line, Origin};
 use std::marker::Model;
 
 /// How a region of a plan came to be.
@@ -136,7 +136,7 @@ impl Plan {
         }
     }
 
-    /// The index of the last entry that the region applies; 5 where there is none.
+    /// The index of the last entry that the region applies; `INIT_INDEX` where there is none.
     pub fn stop(&self, a: u32) -> u64
         requires { a < length (rows_of self.now) }
         ensures { result ≡ stop_of self.now a }

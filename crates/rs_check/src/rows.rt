@@ -1,12 +1,12 @@
 ghost use Rattle.std.specs.Prelude.{◌≡◌, ◌<◌, [], ◌∷◌, ◌++◌, Some, true, false, length, position, slice_get, IfOk, IfSome, OnOk};
 ghost use Rattle.std.specs.List.Sorted.{IsPartitionPoint};
 ghost use Rattle.std.specs.Option.{option_copied};
-ghost use Rattle.rs_order.specs.Runs.{seen};
+ghost use Rattle.rs_store.specs.Runs.{seen};
 ghost use Rattle.rs_check.specs.Plans.{AreOrdered, is_at, is_before, row_of, rows_in};
 
 use rs_entry::Mode;
 use rs_key::{NoMemory, Rows, TryClone};
-use rs_order::{IndexedStore, Made, Origin, Regions};
+use rs_store::{IndexedStore, Made, Origin, Regions};
 
 /// What a plan keeps of a region on a store.
 #[derive(Debug, Drop)]

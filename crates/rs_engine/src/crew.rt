@@ -1,22 +1,22 @@
 ghost use Rattle.std.specs.Prelude.{◌≡◌, ◌≤◌, ◌<◌, ◌+◌, ◌^◌, All, IfOk, OnOk, length};
-ghost use Rattle.rs_pool.specs.Outs.{FitsControl};
+ghost use Rattle.rs_handlers.specs.Outs.{FitsControl};
 
+use crate::deliveries::Telling;
+use crate::main_thread::MainThread;
 use crate::options::Options;
-use crate::own_thread::OwnThread;
-use crate::taking::Taking;
-use crate::telling::Telling;
+use crate::outcomes::Taking;
 use crate::workers::{ApplyPoller, ApplyWorker, ControlPoller, PeerPoller, PeerWorker};
 use rs_apply::ApplyFsm;
 use rs_check::Plan;
+use rs_handlers::{
+    ApplyHandler, ControlHandler, ControlOut, Deliveries, Gathered, Machine, PeerHandler, Seat,
+};
 use rs_key::NoMemory;
 use rs_mailcore::{Fsm, Named};
 use rs_meta::StoreFsm;
 use rs_msg::Outbox;
 use rs_peer::PeerFsm;
 use rs_poll::{More, Poller, Stop};
-use rs_pool::{
-    ApplyHandler, ControlHandler, ControlOut, Deliveries, Gathered, Machine, PeerHandler, Seat,
-};
 use std::alloc::Global;
 
 /// The seats at a run's machines that no worker has yet.
@@ -31,17 +31,17 @@ pub struct Seats<'r, 'p> {
     ghost control_plans: { All (λ seat. seat.plan.now ≡ plan.now) control.items },
 }
 
-/// All that works on a run: the workers of both pools, and what its own thread works with.
+/// All that works on a run: the workers of both pools, and what its main thread works with.
 #[derive(Drop)]
 pub struct Crew<'r, 'p> {
     pub peers: Vec<PeerWorker<'r, 'p>>,
     pub applies: Vec<ApplyWorker<'r, 'p>>,
-    pub own: OwnThread<'r, 'p>,
+    pub own: MainThread<'r, 'p>,
 }
 
 impl<'r, 'p> Seats<'r, 'p> {
     /// Hands the seats out: one of each pool to each poller, a further one of the other machines that it sends to, and
-    /// the last three of each kind to the run's own thread.
+    /// the last three of each kind to the main thread.
     pub fn crew(
         mut self,
         alloc: Global,
@@ -58,7 +58,7 @@ impl<'r, 'p> Seats<'r, 'p> {
         let batch = options.batch();
         let peers = peer_workers(alloc, &mut self, raft, batch)?;
         let applies = apply_workers(alloc, &mut self, raft, options.apply_pollers(), batch)?;
-        let own = own_thread(alloc, self, options, told)?;
+        let own = main_thread(alloc, self, options, told)?;
         Ok(Crew {
             peers,
             applies,
@@ -154,7 +154,7 @@ fn control_poller<'r, 'p>(
     Poller::new(seat.router, seat.desks, seat.pass, handler, out, 0, batch)
 }
 
-/// So many workers of the raft pool, with the numbers from 1 on.
+/// Makes `count` workers of the raft pool, with the numbers from 1 on.
 fn peer_workers<'r, 'p>(
     alloc: Global,
     seats: &mut Seats<'r, 'p>,
@@ -181,7 +181,7 @@ fn peer_workers<'r, 'p>(
     Ok(workers)
 }
 
-/// So many workers of the apply pool, with the numbers behind `before`.
+/// Makes `count` workers of the apply pool, with the numbers after `before`.
 fn apply_workers<'r, 'p>(
     alloc: Global,
     seats: &mut Seats<'r, 'p>,
@@ -213,14 +213,14 @@ fn apply_workers<'r, 'p>(
     Ok(workers)
 }
 
-/// What the run's own thread works with: three seats of each kind, and what the control machines have to tell at the
+/// What the main thread works with: three seats of each kind, and what the control machines have to tell at the
 /// start. It is worker 0.
-fn own_thread<'r, 'p>(
+fn main_thread<'r, 'p>(
     alloc: Global,
     seats: Seats<'r, 'p>,
     options: Options,
     told: ControlOut,
-) -> Result<OwnThread<'r, 'p>, NoMemory>
+) -> Result<MainThread<'r, 'p>, NoMemory>
     requires peers { 3 ≤ length seats.peers.items }
     requires applies { 3 ≤ length seats.applies.items }
     requires control { 3 ≤ length seats.control.items }
@@ -240,7 +240,7 @@ fn own_thread<'r, 'p>(
     let apply_beside = next_seat(plan, &mut applies);
     let store_beside = next_seat(plan, &mut control);
     let store = next_seat(plan, &mut control);
-    Ok(OwnThread {
+    Ok(MainThread {
         plan,
         telling: Telling {
             deliveries: Deliveries::new(alloc, plan, options.chunk())?,

@@ -1,19 +1,17 @@
 //! The run: a plan's outcome by pollers in threads.
 //!
-//! Two pools of pollers and the run's own thread serve the machines of `rs_pool`. docs/BATCH.md tells how they fit
+//! Two pools of pollers and the main thread serve the machines of `rs_handlers`. docs/BATCH.md tells how they fit
 //! together.
 #![tactic(auto)]
 
 mod crew;
+mod deliveries;
+mod main_thread;
 mod options;
-mod own_thread;
+mod outcomes;
 mod routers;
-mod running;
-mod taking;
-mod telling;
-#[cfg(test)]
-mod tests;
+mod run_plan;
 mod workers;
 
 pub use options::Options;
-pub use running::{run, run_on};
+pub use run_plan::{run, run_on};

@@ -60,21 +60,21 @@ impl Options {
         self.apply_pollers
     }
 
-    /// The most messages, and after them the most entries, of one turn of a machine.
+    /// Returns the most messages, and after them the most entries, of one turn of a machine.
     pub fn batch(&self) -> u32
         ensures { result ≡ self.now.2 }
     {
         self.batch
     }
 
-    /// The most entries by which one message raises the index up to which a log is there.
+    /// Returns the most entries by which one message raises the index up to which a log is there.
     pub fn chunk(&self) -> u32
         ensures { result ≡ self.now.3 }
     {
         self.chunk
     }
 
-    /// How many passes of each scheduler a run needs: one for each poller, and three for its own thread.
+    /// Returns the number of passes of each scheduler that a run needs: one a poller, and three for its main thread.
     pub fn passes(&self) -> u32
         ensures number { result ≡ self.now.0 + self.now.1 + 3 }
         ensures few { result ≤ 35 }

@@ -1,7 +1,7 @@
 -- Equality of entries and what they are made of, as tests.
 use Rattle.std.specs.Prelude.{ℕ, ◌==◌, ◌&&◌, Bool, true, false, nat_eq}
 use Rattle.rs_key.specs.Keys.{same_bytes}
-use Rattle.rs_key.specs.Lists.{same_lists}
+use Rattle.rs_rows.specs.Lists.{same_lists}
 use Rattle.rs_key.specs.Epochs.{same_epochs}
 use Rattle.rs_key.specs.Ranges.{same_bounds}
 use Rattle.rs_entry.specs.declared.entry.Op.{Op}

@@ -1,6 +1,12 @@
 use crate::entry::Entry;
 use rs_key::{Range, Rows};
 
+/// The applied index of a region that has applied no entry of its log: TiKV's `RAFT_INIT_LOG_INDEX`.
+pub const INIT_INDEX: u64 = 5;
+
+/// The index of the first entry of each log, the one after `INIT_INDEX`.
+pub const FIRST_INDEX: u64 = 6;
+
 /// A region that a store has from the start.
 #[derive(Debug, Drop)]
 pub struct Boot {
@@ -14,7 +20,7 @@ pub struct Boot {
 #[derive(Debug, Drop)]
 pub struct Log {
     pub region: u64,
-    /// With the indexes 6, 7, 8 and so on.
+    /// With the indexes `FIRST_INDEX`, 7, 8 and so on.
     pub entries: Rows<Entry>,
 }
 

@@ -2,6 +2,7 @@ use crate::entry::{Carried, Entry};
 use crate::input::Boot;
 use crate::outcome::Mode;
 use rs_key::Range;
+use thiserror::Error;
 
 /// Something that an input says of a region, or of one entry of its log.
 #[derive(Debug, Drop)]
@@ -12,10 +13,11 @@ pub enum Statement {
 }
 
 /// Why an input is no lawful set of committed logs.
-#[derive(Debug, Drop)]
+#[derive(Debug, Drop, Error)]
 pub enum LawFault {
     /// Two stores state the same differently: the store of the first statement, and of the other.
     /// The index is 0 where the statements are about a region.
+    #[error("stores {first} and {second} state the same of region {region} differently, at index {index}")]
     Differ {
         first: u64,
         second: u64,
@@ -25,11 +27,13 @@ pub enum LawFault {
         is: Statement,
     },
     /// Two regions that are there from the start share a key; the one with the lesser id first.
+    #[error("two regions that are there from the start share a key")]
     Overlap {
         one: Boot,
         other: Boot,
     },
     /// A split makes a region whose id is used already.
+    #[error("store {store}: the split of region {region} at index {index} makes region {id}, whose id is used already")]
     Reused {
         store: u64,
         region: u64,
@@ -37,6 +41,7 @@ pub enum LawFault {
         id: u64,
     },
     /// An accepted Commit of a source that hasn't prepared this merge.
+    #[error("store {store}: the Commit of region {region} at index {index} joins region {source}, which hasn't prepared this merge")]
     NotPrepared {
         store: u64,
         region: u64,
@@ -45,6 +50,7 @@ pub enum LawFault {
         commit: u64,
     },
     /// An accepted Commit of a source that isn't next to the target.
+    #[error("store {store}: the Commit of region {region} at index {index} joins region {source}, which isn't next to it")]
     NotNext {
         store: u64,
         region: u64,
@@ -55,6 +61,7 @@ pub enum LawFault {
         source_range: Range,
     },
     /// A Rollback of a merge that the region isn't in.
+    #[error("store {store}: region {region} isn't in the merge that its Rollback at index {index} undoes")]
     BadRollback {
         store: u64,
         region: u64,
@@ -63,6 +70,7 @@ pub enum LawFault {
         mode: Mode,
     },
     /// A region stands before a Commit whose source never comes to it.
+    #[error("store {store}: the Commit of region {region} at index {index} waits for region {source}, which never comes to it")]
     Waits {
         store: u64,
         region: u64,
@@ -71,6 +79,7 @@ pub enum LawFault {
         commit: u64,
     },
     /// A region has a log and is never made.
+    #[error("store {store}: region {region} has a log and is never made")]
     Unborn {
         store: u64,
         region: u64,

@@ -10,11 +10,9 @@ mod equality;
 mod input;
 mod law_fault;
 mod outcome;
-#[cfg(test)]
-mod tests;
 
 pub use entry::{Body, Carried, CarriedBody, Change, Entry, Op, Side};
-pub use input::{Boot, Input, Log, Store};
+pub use input::{Boot, FIRST_INDEX, INIT_INDEX, Input, Log, Store};
 pub use law_fault::{LawFault, Statement};
 pub use outcome::{
     Item, KeyHistory, Mode, Outcome, Pair, RegionLine, Reply, ReplyLine, StoreOutcome,

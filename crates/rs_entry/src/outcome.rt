@@ -38,7 +38,7 @@ pub struct RegionLine {
     pub epoch: Epoch,
     pub range: Range,
     pub mode: Mode,
-    /// The index of the last entry applied; 5 where there was none.
+    /// The index of the last entry applied; `INIT_INDEX` where there was none.
     pub applied: u64,
     /// How many entries of its own log lie past that index.
     pub left: u64,

@@ -6,7 +6,7 @@ use Rattle.std.specs.Fmt.{decimal}
 use Rattle.hex.specs.Hex.{encode_lower, decode_of}
 use Rattle.std.specs.declared.vec.Vec.{Vec}
 use Rattle.rs_key.specs.Ranges.{Bounds}
-use Rattle.rs_key.specs.declared.no_memory.NoMemory.{NoMemory}
+use Rattle.rs_rows.specs.declared.no_memory.NoMemory.{NoMemory}
 use Rattle.rs_key.specs.declared.epoch.Epoch.{Epoch}
 use Rattle.rs_field.specs.Lines.{fields_of}
 

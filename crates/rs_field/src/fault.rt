@@ -1,31 +1,44 @@
 use rs_key::NoMemory;
 use std::alloc::AllocError;
+use thiserror::Error;
 
 /// What is wrong with a text at its first bad line.
-#[derive(Clone, Copy, Debug, PartialEq, Eq)]
+#[derive(Clone, Copy, Debug, PartialEq, Eq, Error)]
 pub enum TextKind {
     /// Line 1 doesn't name the format and a version.
+    #[error("line 1 doesn't name the format and a version")]
     BadHeader,
     /// The line may not stand here, has a field too many or too few, or isn't ended by LF.
+    #[error("the line may not stand here, has a wrong number of fields, or isn't ended by LF")]
     BadLine,
     /// A field is no number, or 0 where an id has to stand.
+    #[error("a field is no number, or is 0 where an id has to stand")]
     BadNumber,
     /// A field is no hexadecimal text of a key or a value, or a range ends where it begins or before.
+    #[error("a field is no key or value, or a range ends where it begins or before")]
     BadKey,
     /// An entry's index isn't the one after the entry before.
+    #[error("the index isn't the one after the entry before")]
     BadIndex,
     /// A carried entry that doesn't continue the list of its commit.
+    #[error("the carried entry doesn't continue the list of its commit")]
     BadCarry,
     /// One more than there may be.
+    #[error("there is one more than there may be")]
     Limit,
     /// The last line isn't `end`.
+    #[error("the last line isn't `end`")]
     NoEnd,
 }
 
 /// Why a line, or a part of it, was not read.
-#[derive(Clone, Copy, Debug, PartialEq, Eq)]
+#[derive(Clone, Copy, Debug, PartialEq, Eq, Error)]
 pub enum LineError {
+    /// It is no line of the format.
+    #[error("{0}")]
     Bad(TextKind),
+    /// Memory ran out.
+    #[error("out of memory")]
     NoMemory,
 }
 

@@ -10,8 +10,6 @@ mod fault;
 mod fields;
 mod hexadecimal;
 mod numbers;
-#[cfg(test)]
-mod tests;
 mod text;
 
 pub use cuts::next_line;

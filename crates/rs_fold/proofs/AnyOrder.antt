@@ -3,21 +3,21 @@ use Rattle.std.proofs.Common.{◌≡◌, ◌∙◌, sym, refl, ap, ℕ, List}
 use Rattle.std.specs.Prelude.{Option, Some, None}
 use Rattle.rs_entry.specs.declared.input.Store.{Store}
 use Rattle.rs_entry.specs.declared.outcome.StoreOutcome.{StoreOutcome}
-use Rattle.rs_order.specs.declared.fault.StepFault.{StepFault}
-use Rattle.rs_order.specs.Ends.{fault_at_end}
-use Rattle.rs_order.specs.Stores.{Applied, Broke, Stepped, Went, entries_in, last, least_ready, opening}
-use Rattle.rs_value.specs.Orders.{End, Faulty, Followed, IsDone, NotReady, follow}
-use Rattle.rs_value.specs.Scripts.{Script}
-use Rattle.rs_value.specs.Telling.{Begins, Tells}
-use Rattle.rs_value.proofs.Agreeing.{ends_agree}
-use Rattle.rs_value.proofs.Canonical.{canonical, last_done, none_least}
-use Rattle.rs_value.proofs.Faultless.{no_order_faults}
-use Rattle.rs_value.proofs.Known.{done_known}
-use Rattle.rs_value.proofs.Whole.{order_invariant}
+use Rattle.rs_store.specs.declared.fault.StepFault.{StepFault}
+use Rattle.rs_store.specs.Ends.{fault_at_end}
+use Rattle.rs_store.specs.Stores.{Applied, Broke, Stepped, Went, entries_in, last, least_ready, opening}
+use Rattle.rs_part.specs.Orders.{End, Faulty, Followed, IsDone, NotReady, follow}
+use Rattle.rs_part.specs.Scripts.{Script}
+use Rattle.rs_part.specs.Telling.{Begins, Tells}
+use Rattle.rs_part.proofs.Agreeing.{ends_agree}
+use Rattle.rs_part.proofs.Canonical.{canonical, last_done, none_least}
+use Rattle.rs_part.proofs.Faultless.{no_order_faults}
+use Rattle.rs_part.proofs.Known.{done_known}
+use Rattle.rs_part.proofs.Whole.{order_invariant}
 use Rattle.rs_fold.specs.Ends.{IsLawful}
 use Rattle.rs_fold.specs.Ordered.{Broken, Gave, ended, in_order_of, ordered_by}
-use Rattle.rs_outcome.specs.Outcomes.{outcome_at, outcome_by, store_outcome}
-use Rattle.rs_outcome.proofs.SameOutcomes.{agreed_outcome}
+use Rattle.rs_history.specs.Outcomes.{outcome_at, outcome_by, store_outcome}
+use Rattle.rs_history.proofs.SameOutcomes.{agreed_outcome}
 
 -- the canonical order of a lawful store comes to its end
 lawful_last : (store : Store) → IsLawful store → (k : Applied) × (last store ≡ Went k)

@@ -4,15 +4,15 @@ use Rattle.std.specs.Prelude.{None, option_to_list}
 use Rattle.std.proofs.lemmas.List.{map-append}
 use Rattle.rs_entry.specs.declared.input.Store.{Store}
 use Rattle.rs_entry.specs.declared.outcome.ReplyLine.{ReplyLine}
-use Rattle.rs_order.specs.declared.effect.Effect.{Effect}
-use Rattle.rs_order.specs.declared.fault.StepFault.{StepFault}
-use Rattle.rs_order.specs.Stores.{ByRegion, Applied, Stepped, Went, Broke, Wrote, wrote, replied, least_ready, advance, after, entries_in, ids_of, last}
-use Rattle.rs_order.specs.Runs.{bare}
-use Rattle.rs_order.specs.Ends.{fault_at_end}
-use Rattle.rs_order.specs.Walks.{gained}
-use Rattle.rs_order.proofs.WalkLaws.{onto, after_on, rests_whole, breaks_whole}
-use Rattle.rs_outcome.specs.Histories.{histories_of}
-use Rattle.rs_outcome.specs.Outcomes.{reply_line, lines_in, removed_in, shown, outcome_with, outcome_by, store_outcome}
+use Rattle.rs_store.specs.declared.effect.Effect.{Effect}
+use Rattle.rs_store.specs.declared.fault.StepFault.{StepFault}
+use Rattle.rs_store.specs.Stores.{ByRegion, Applied, Stepped, Went, Broke, Wrote, wrote, replied, least_ready, advance, after, entries_in, ids_of, last}
+use Rattle.rs_store.specs.Runs.{bare}
+use Rattle.rs_store.specs.Ends.{fault_at_end}
+use Rattle.rs_store.specs.Walks.{gained}
+use Rattle.rs_store.proofs.WalkLaws.{onto, after_on, rests_whole, breaks_whole}
+use Rattle.rs_history.specs.Histories.{histories_of}
+use Rattle.rs_history.specs.Outcomes.{reply_line, lines_in, removed_in, shown, outcome_with, outcome_by, store_outcome}
 use Rattle.rs_fold.specs.Ends.{WentSo}
 
 -- what went so is there

@@ -3,7 +3,7 @@ use Rattle.std.proofs.Common.{◌≡◌, None}
 use Rattle.std.proofs.lemmas.List.Elements.{All-from_recursion}
 use Rattle.rs_entry.specs.declared.input.Input.{Input}
 use Rattle.rs_entry.specs.WellFormed.{WellFormed}
-use Rattle.rs_order.specs.Formed.{IsFormedStores}
+use Rattle.rs_store.specs.Formed.{IsFormedStores}
 use Rattle.rs_check.specs.Laws.{check}
 use Rattle.rs_check.proofs.StoreEnds.{lawful_ends}
 use Rattle.rs_check.proofs.Wellness.{formed_input}

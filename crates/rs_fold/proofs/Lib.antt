@@ -5,5 +5,4 @@ pub mod Lawful
 pub mod MadeLists
 pub mod OrderSteps
 pub mod ReplyOrder
-pub mod SmallInputLaws
 pub mod StoreLaws

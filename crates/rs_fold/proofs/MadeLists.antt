@@ -3,8 +3,8 @@ use Rattle.std.proofs.Common.{◌≡◌, ◌∙◌, ap, ℕ, ◌+◌, ◌<◌, L
 use Rattle.std.specs.Prelude.{Option, Some, None}
 use Rattle.std.specs.List.{filter_map}
 use Rattle.std.proofs.lemmas.List.Elements.{filter_map-append}
-use Rattle.rs_order.proofs.Rising.{get_or_any}
-use Rattle.rs_order.proofs.Loops.{take_here}
+use Rattle.rs_store.proofs.Rising.{get_or_any}
+use Rattle.rs_store.proofs.Loops.{take_here}
 
 module _ {X : Type 0} (p : ℕ → Option X) (ids : List ℕ) (i : ℕ) (there : i < length ids) where
   one_id : filter_map p (take (i + 1) ids) ≡ filter_map p (take i ids) ++ filter_map p (get_or ids i 0 ∷ [])

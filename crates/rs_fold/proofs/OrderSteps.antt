@@ -4,20 +4,20 @@ use Rattle.std.specs.Prelude.{Option, Some, None, option_to_list}
 use Rattle.std.proofs.lemmas.List.{append_assoc, get_or_default, length-append, length-take-le, map-append, take-append-drop}
 use Rattle.rs_entry.specs.declared.input.Store.{Store}
 use Rattle.rs_entry.specs.declared.outcome.ReplyLine.{ReplyLine}
-use Rattle.rs_order.specs.declared.effect.Effect.{Effect}
-use Rattle.rs_order.specs.declared.fault.StepFault.{StepFault}
-use Rattle.rs_order.specs.Stores.{Applied, Broke, ByRegion, Stepped, Went, Wrote, entries_in, is_ready, least_ready, opening, replied, step, wrote}
-use Rattle.rs_order.specs.Runs.{bare}
-use Rattle.rs_order.specs.Walks.{gained}
-use Rattle.rs_order.proofs.Orders.{ready_same, least_same}
-use Rattle.rs_order.proofs.WalkLaws.{onto, step_onto}
-use Rattle.rs_value.specs.Orders.{End, Faulty, Followed, NotReady, follow, follow_by}
-use Rattle.rs_value.proofs.Canonical.{order_length}
-use Rattle.rs_value.proofs.Following.{follow_more}
+use Rattle.rs_store.specs.declared.effect.Effect.{Effect}
+use Rattle.rs_store.specs.declared.fault.StepFault.{StepFault}
+use Rattle.rs_store.specs.Stores.{Applied, Broke, ByRegion, Stepped, Went, Wrote, entries_in, is_ready, least_ready, opening, replied, step, wrote}
+use Rattle.rs_store.specs.Runs.{bare}
+use Rattle.rs_store.specs.Walks.{gained}
+use Rattle.rs_store.proofs.Orders.{ready_same, least_same}
+use Rattle.rs_store.proofs.WalkLaws.{onto, step_onto}
+use Rattle.rs_part.specs.Orders.{End, Faulty, Followed, NotReady, follow, follow_by}
+use Rattle.rs_part.proofs.Canonical.{order_length}
+use Rattle.rs_part.proofs.Following.{follow_more}
 use Rattle.rs_fold.specs.Ends.{IsLawful, outcome_left}
 use Rattle.rs_fold.specs.Ordered.{EndsSo, Gave, IsScripted, TooSoon, Unfinished, ended, in_order_of, ordered_by}
-use Rattle.rs_outcome.specs.Outcomes.{reply_line, store_outcome}
-use Rattle.rs_order.proofs.Loops.{take_here}
+use Rattle.rs_history.specs.Outcomes.{reply_line, store_outcome}
+use Rattle.rs_store.proofs.Loops.{take_here}
 use Rattle.rs_fold.proofs.AnyOrder.{ordered_same, ordered_whole}
 
 -- an order that came so has an end

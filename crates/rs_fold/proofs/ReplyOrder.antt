@@ -13,10 +13,10 @@ use Rattle.std.proofs.lemmas.List.Elements.{filter_agree}
 use Rattle.std.proofs.lemmas.List.Sorted.{ranks_by}
 use Rattle.rs_entry.specs.declared.outcome.Reply.TheVariants as reply
 use Rattle.rs_entry.specs.declared.outcome.ReplyLine.{ReplyLine}
-use Rattle.rs_outcome.specs.Outcomes.{by_region}
-use Rattle.rs_outcome.specs.Replies.{of_region}
+use Rattle.rs_history.specs.Outcomes.{by_region}
+use Rattle.rs_history.specs.Replies.{of_region}
 use Rattle.rs_fold.specs.Replies.{region_below}
-use Rattle.rs_outcome.proofs.ReplyLaws.{Rise, by_region_rises, by_region_same, from_less, not_equal, unique}
+use Rattle.rs_history.proofs.ReplyLaws.{Rise, by_region_rises, by_region_same, from_less, not_equal, unique}
 
 -- ---- tests of two numbers
 

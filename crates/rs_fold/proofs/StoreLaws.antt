@@ -5,8 +5,8 @@ use Rattle.std.proofs.lemmas.List.Elements.{recursion_from_All}
 use Rattle.rs_entry.specs.WellFormed.{WellFormed}
 use Rattle.rs_entry.specs.declared.input.Input.{Input}
 use Rattle.rs_entry.specs.declared.input.Store.{Store}
-use Rattle.rs_order.specs.Formed.{IsFormedOne}
-use Rattle.rs_value.proofs.Members.{among_all, among_find}
+use Rattle.rs_store.specs.Formed.{IsFormedOne}
+use Rattle.rs_part.proofs.Members.{among_all, among_find}
 use Rattle.rs_check.specs.Laws.{check}
 use Rattle.rs_check.specs.Scripts.{script_of}
 use Rattle.rs_check.proofs.LawfulScripts.{begins_lawful, tells_lawful}

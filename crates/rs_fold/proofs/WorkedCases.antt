@@ -16,8 +16,8 @@ use Rattle.rs_entry.specs.declared.outcome.Mode.TheVariants as mode
 use Rattle.rs_entry.specs.declared.outcome.Reply.{Reply}
 use Rattle.rs_entry.specs.declared.outcome.Reply.TheVariants as reply
 use Rattle.rs_entry.specs.declared.outcome.ReplyLine.{ReplyLine}
-use Rattle.rs_outcome.specs.Histories.{histories_of}
-use Rattle.rs_outcome.specs.Outcomes.{store_outcome}
+use Rattle.rs_history.specs.Histories.{histories_of}
+use Rattle.rs_history.specs.Outcomes.{store_outcome}
 
 -- ---- short forms
 

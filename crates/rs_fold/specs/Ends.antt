@@ -3,11 +3,11 @@ use Rattle.std.specs.Prelude.{◌≡◌, List, map, None}
 use Rattle.std.specs.List.{All}
 use Rattle.rs_entry.specs.declared.input.Store.{Store}
 use Rattle.rs_entry.specs.declared.outcome.ReplyLine.{ReplyLine}
-use Rattle.rs_order.specs.Stores.{ByRegion, Stepped, Went, Broke, Wrote, ids_of, last}
-use Rattle.rs_order.specs.Ends.{fault_at_end}
+use Rattle.rs_store.specs.Stores.{ByRegion, Stepped, Went, Broke, Wrote, ids_of, last}
+use Rattle.rs_store.specs.Ends.{fault_at_end}
 use Rattle.rs_entry.specs.declared.outcome.StoreOutcome.{StoreOutcome}
-use Rattle.rs_outcome.specs.Histories.{histories_of}
-use Rattle.rs_outcome.specs.Outcomes.{reply_line, lines_in, removed_in, shown, outcome_with}
+use Rattle.rs_history.specs.Histories.{histories_of}
+use Rattle.rs_history.specs.Outcomes.{reply_line, lines_in, removed_in, shown, outcome_with}
 
 -- the store's canonical order and its end meet no fault
 abbrev pub IsLawful : Store → Type 0

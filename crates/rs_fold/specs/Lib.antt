@@ -1,4 +1,3 @@
 pub mod Ends
 pub mod Ordered
 pub mod Replies
-pub mod SmallInput

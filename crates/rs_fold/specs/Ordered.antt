@@ -2,17 +2,17 @@
 use Rattle.std.specs.Prelude.{◌≡◌, ℕ, List, Option, Some, None, map, Result, Ok, Err}
 use Rattle.rs_entry.specs.declared.input.Store.{Store}
 use Rattle.rs_entry.specs.declared.outcome.StoreOutcome.{StoreOutcome}
-use Rattle.rs_order.specs.declared.fault.StepFault.{StepFault}
+use Rattle.rs_store.specs.declared.fault.StepFault.{StepFault}
 use Rattle.rs_entry.specs.declared.outcome.ReplyLine.{ReplyLine}
-use Rattle.rs_order.specs.Runs.{bare, seen}
-use Rattle.rs_order.specs.Stores.{Applied, ByRegion, Wrote, least_ready, opening}
-use Rattle.rs_value.specs.Orders.{Followed, End, NotReady, Faulty, follow}
-use Rattle.rs_value.specs.Scripts.{Script}
-use Rattle.rs_value.specs.Telling.{Begins, Tells}
+use Rattle.rs_store.specs.Runs.{bare, seen}
+use Rattle.rs_store.specs.Stores.{Applied, ByRegion, Wrote, least_ready, opening}
+use Rattle.rs_part.specs.Orders.{Followed, End, NotReady, Faulty, follow}
+use Rattle.rs_part.specs.Scripts.{Script}
+use Rattle.rs_part.specs.Telling.{Begins, Tells}
 use Rattle.rs_fold.specs.declared.fold_error.FoldError.{FoldError}
 use Rattle.rs_fold.specs.declared.fold_error.FoldError.TheVariants as errors
 use Rattle.rs_fold.specs.declared.run.End.{End as Reached}
-use Rattle.rs_outcome.specs.Outcomes.{outcome_at, reply_line, store_outcome}
+use Rattle.rs_history.specs.Outcomes.{outcome_at, reply_line, store_outcome}
 
 -- to an outcome, where it ends with no region ready; to a place, counted from 1, whose region is not ready yet;
 -- to a region that is still ready at its end; or to a fault

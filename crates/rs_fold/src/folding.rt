@@ -1,21 +1,21 @@
 ghost use Rattle.std.specs.Prelude.{◌≡◌, IfOk, map};
-ghost use Rattle.rs_order.specs.Formed.{IsFormedOne, IsFormedStores};
-ghost use Rattle.rs_order.specs.Runs.{seen};
-ghost use Rattle.rs_order.specs.Stores.{ids_of};
+ghost use Rattle.rs_store.specs.Formed.{IsFormedOne, IsFormedStores};
+ghost use Rattle.rs_store.specs.Runs.{seen};
+ghost use Rattle.rs_store.specs.Stores.{ids_of};
 ghost use Rattle.rs_fold.specs.Ends.{IsLawful, AreLawful, outcome_left};
-ghost use Rattle.rs_outcome.specs.Outcomes.{store_outcome, outcome_of};
+ghost use Rattle.rs_history.specs.Outcomes.{store_outcome, outcome_of};
 
 use crate::region_lines::{lines_in, removed_in};
 use crate::replies::by_region;
 use crate::run::{End, run_to_end};
 use rs_check::Plan;
 use rs_entry::{Outcome, Store, StoreOutcome};
+use rs_history::pairs_of;
 use rs_key::{NoMemory, Rows};
-use rs_outcome::pairs_of;
 use std::alloc::Global;
 
 /// What comes of a plan: on each store the end of its canonical order.
-#[tactic(auto, using(crate::proofs::Lawful::lawful_stores), unfolding(rs_outcome::specs::Outcomes::outcome_of))]
+#[tactic(auto, using(crate::proofs::Lawful::lawful_stores), unfolding(rs_history::specs::Outcomes::outcome_of))]
 pub fn fold(alloc: Global, plan: &Plan) -> Result<Outcome, NoMemory>
     ensures { IfOk result (λ outcome. outcome ≡ outcome_of plan.now) }
 {

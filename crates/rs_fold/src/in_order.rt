@@ -2,9 +2,9 @@ ghost use Rattle.std.specs.Prelude.{◌≡◌, ◌==◌, Some, IfOk, IsSome};
 ghost use Rattle.std.specs.List.{find};
 ghost use Rattle.std.specs.Option.{option_copied};
 ghost use Rattle.rs_entry.specs.declared.input.Store.{Store};
-ghost use Rattle.rs_order.specs.Stores.{ids_of};
-ghost use Rattle.rs_order.specs.Runs.{seen};
-ghost use Rattle.rs_order.specs.Formed.{IsFormedOne};
+ghost use Rattle.rs_store.specs.Stores.{ids_of};
+ghost use Rattle.rs_store.specs.Runs.{seen};
+ghost use Rattle.rs_store.specs.Formed.{IsFormedOne};
 ghost use Rattle.rs_fold.specs.Ends.{IsLawful};
 ghost use Rattle.rs_fold.specs.Ordered.{IsScripted, IsFoldOf, EndsAs};
 
@@ -13,8 +13,8 @@ use crate::folding::outcome_of_end;
 use crate::run::{End, record_reply};
 use rs_check::Plan;
 use rs_entry::{Store, StoreOutcome};
-use rs_order::{Advance, Walk};
-use rs_writes::Writes;
+use rs_history::Writes;
+use rs_store::{Advance, Walk};
 use std::alloc::Global;
 
 /// What comes of one store, the one with this id, when its regions take their entries in the order of these ids.

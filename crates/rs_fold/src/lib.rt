@@ -8,8 +8,6 @@ mod lookup;
 mod region_lines;
 mod replies;
 mod run;
-#[cfg(test)]
-mod tests;
 
 pub use fold_error::FoldError;
 pub use folding::fold;

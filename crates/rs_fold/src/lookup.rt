@@ -2,7 +2,7 @@ ghost use Rattle.std.specs.Prelude.{◌≡◌, ◌==◌};
 ghost use Rattle.std.specs.List.{find};
 ghost use Rattle.std.specs.Option.{option_copied, option_map};
 ghost use Rattle.rs_key.specs.Keys.{same_bytes};
-ghost use Rattle.rs_outcome.specs.Outcomes.{history_in, history_at};
+ghost use Rattle.rs_history.specs.Outcomes.{history_in, history_at};
 
 use rs_entry::{Item, KeyHistory, Outcome, StoreOutcome};
 use rs_key::{Key, Rows};

@@ -1,12 +1,12 @@
 ghost use Rattle.std.specs.Prelude.{◌≡◌, ◌<◌, ◌^◌, IfOk};
 ghost use Rattle.std.specs.Option.{option_copied};
-ghost use Rattle.rs_order.specs.Indexes.{AreRising, log_ids};
-ghost use Rattle.rs_order.specs.Runs.{seen};
-ghost use Rattle.rs_outcome.specs.Outcomes.{left_of, region_line, lines_in, is_removed, removed_range, removed_in};
+ghost use Rattle.rs_store.specs.Indexes.{AreRising, log_ids};
+ghost use Rattle.rs_store.specs.Runs.{seen};
+ghost use Rattle.rs_history.specs.Outcomes.{left_of, region_line, lines_in, is_removed, removed_range, removed_in};
 
-use rs_entry::{Entry, Mode, RegionLine, Store};
+use rs_entry::{Entry, INIT_INDEX, Mode, RegionLine, Store};
 use rs_key::{NoMemory, Range, Rows, TryClone};
-use rs_order::{Made, Regions, own};
+use rs_store::{Made, Regions, own};
 use std::alloc::Global;
 
 /// The lines of the regions with these ids that were made.
@@ -58,7 +58,7 @@ fn line(store: &Store, id: u64, made: &Made) -> Result<RegionLine, NoMemory>
 fn left_of(log: &[Entry], applied: u64) -> u64
     ensures { result ≡ left_of log.now applied }
 {
-    let done = applied.saturating_sub(5);
+    let done = applied.saturating_sub(INIT_INDEX);
     (log.len() as u64).saturating_sub(done)
 }
 

@@ -1,8 +1,8 @@
 ghost use Rattle.std.specs.Prelude.{◌≡◌, ℕ, IfOk, OnOk};
 ghost use Rattle.std.specs.List.{filter};
 ghost use Rattle.std.specs.List.Sorted.{IsSortedBy};
-ghost use Rattle.rs_outcome.specs.Outcomes.{by_region};
-ghost use Rattle.rs_outcome.specs.Replies.{of_region};
+ghost use Rattle.rs_history.specs.Outcomes.{by_region};
+ghost use Rattle.rs_history.specs.Replies.{of_region};
 ghost use Rattle.rs_fold.specs.Replies.{region_below};
 
 use rs_entry::ReplyLine;

@@ -1,14 +1,14 @@
 ghost use Rattle.std.specs.Prelude.{◌≡◌, ◌++◌, map, IfOk, OnOk, option_to_list};
-ghost use Rattle.rs_order.specs.Stores.{last, ids_of, replied};
-ghost use Rattle.rs_order.specs.Runs.{seen};
-ghost use Rattle.rs_order.specs.Formed.{IsFormedOne};
-ghost use Rattle.rs_outcome.specs.Outcomes.{reply_line};
+ghost use Rattle.rs_store.specs.Stores.{last, ids_of, replied};
+ghost use Rattle.rs_store.specs.Runs.{seen};
+ghost use Rattle.rs_store.specs.Formed.{IsFormedOne};
+ghost use Rattle.rs_history.specs.Outcomes.{reply_line};
 ghost use Rattle.rs_fold.specs.Ends.{IsLawful, WentSo};
 
 use rs_entry::{Reply, ReplyLine, Store};
+use rs_history::Writes;
 use rs_key::NoMemory;
-use rs_order::{Advance, Arrived, Effect, Walk};
-use rs_writes::Writes;
+use rs_store::{Advance, Arrived, Effect, Walk};
 use std::alloc::{AllocError, Global};
 
 /// A store at the end of its canonical order.

@@ -5,7 +5,7 @@ use Rattle.std.proofs.lemmas.List.{append-nil}
 use Rattle.std.proofs.lemmas.List.Sums.{sum_by-append, sum_by-cons}
 use Rattle.rs_entry.specs.declared.input.Input.{Input}
 use Rattle.rs_entry.specs.declared.input.Store.{Store}
-use Rattle.rs_order.specs.Stores.{ByRegion, last}
+use Rattle.rs_store.specs.Stores.{ByRegion, last}
 use Rattle.rs_check.specs.declared.rows.Row.{Row}
 use Rattle.rs_check.specs.Plans.{row_of, rows_at, rows_in, rows_of, store_rows}
 use Rattle.rs_gen.specs.declared.kept.Kept.{Kept}

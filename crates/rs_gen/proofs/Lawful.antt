@@ -2,7 +2,7 @@
 use Rattle.std.proofs.Common.{◌≡◌, ◌∙◌, refl, sym, ap, subst, ℕ}
 use Rattle.std.specs.Prelude.{None, Option}
 use Rattle.rs_entry.specs.declared.input.Input.{Input}
-use Rattle.rs_order.specs.Stores.{first_some}
+use Rattle.rs_store.specs.Stores.{first_some}
 use Rattle.rs_check.specs.Laws.{check, differ_law, first_in_stores, overlap_law, reused_law, store_law}
 use Rattle.rs_gen.specs.declared.kept.Kept.TheVariants as shares
 use Rattle.rs_gen.specs.Inputs.{made_of, store_of}

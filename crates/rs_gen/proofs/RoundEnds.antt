@@ -8,11 +8,11 @@ use Rattle.std.proofs.lemmas.List.Sums.{sum_by-cons}
 use Rattle.rs_entry.specs.declared.entry.Entry.{Entry}
 use Rattle.rs_entry.specs.declared.input.Log.{Log}
 use Rattle.rs_entry.specs.declared.input.Store.{Store}
-use Rattle.rs_order.specs.declared.fault.StoreFault.TheVariants as faults
-use Rattle.rs_order.specs.declared.regions.Made.{Made}
-use Rattle.rs_order.specs.declared.regions.Origin.TheVariants as origins
-use Rattle.rs_order.specs.Ends.{fault_at_end, first_of, first_unborn, is_unborn, waits, waits_with}
-use Rattle.rs_order.specs.Stores.{Applied, Went, advance_by, after, carried_at, carried_in, carried_next, entries_in, first_some, ids_of, is_live, is_paused, is_ready, last, least_ready, merge_of, opening, own, own_next, ready_in, ready_with, stands, stands_in, then_advance}
+use Rattle.rs_store.specs.declared.fault.StoreFault.TheVariants as faults
+use Rattle.rs_store.specs.declared.regions.Made.{Made}
+use Rattle.rs_store.specs.declared.regions.Origin.TheVariants as origins
+use Rattle.rs_store.specs.Ends.{fault_at_end, first_of, first_unborn, is_unborn, waits, waits_with}
+use Rattle.rs_store.specs.Stores.{Applied, Went, advance_by, after, carried_at, carried_in, carried_next, entries_in, first_some, ids_of, is_live, is_paused, is_ready, last, least_ready, merge_of, opening, own, own_next, ready_in, ready_with, stands, stands_in, then_advance}
 use Rattle.rs_check.specs.Laws.{law_of, store_law}
 use Rattle.rs_gen.specs.declared.kept.Kept.{Kept}
 use Rattle.rs_gen.specs.Rounds.{child, main_entries, version}

@@ -13,11 +13,11 @@ use Rattle.rs_region.specs.declared.state.RegionState.{RegionState}
 use Rattle.rs_region.specs.Reshapings.{prepared}
 use Rattle.rs_region.specs.Verdicts.{verdict}
 use Rattle.rs_region.specs.declared.verdict.Verdict.TheVariants as verdicts
-use Rattle.rs_order.specs.declared.regions.Made.{Made}
-use Rattle.rs_order.specs.declared.regions.Origin.{Origin}
-use Rattle.rs_order.specs.declared.regions.Origin.TheVariants as origins
-use Rattle.rs_order.specs.Stores.{Applied, Merge, Went, Wrote, accept, advance, advance_by, after, as_merged, carried_at, carried_next, commit_with, first_some, goes_on, has_applied, ids_of, is_accept, is_fitting, is_paused, is_prepared_for, is_ready, least_ready, merge_in, merge_of, moved, next, own, own_next, ready_in, ready_with, reshaped, source_is_there, stands, stands_in, step_by, step_in, step_with, then_advance, with_merged, with_new, with_region, wrote}
-use Rattle.rs_order.specs.Stores as stores
+use Rattle.rs_store.specs.declared.regions.Made.{Made}
+use Rattle.rs_store.specs.declared.regions.Origin.{Origin}
+use Rattle.rs_store.specs.declared.regions.Origin.TheVariants as origins
+use Rattle.rs_store.specs.Stores.{Applied, Merge, Went, Wrote, accept, advance, advance_by, after, as_merged, carried_at, carried_next, commit_with, first_some, goes_on, has_applied, ids_of, is_accept, is_fitting, is_paused, is_prepared_for, is_ready, least_ready, merge_in, merge_of, moved, next, own, own_next, ready_in, ready_with, reshaped, source_is_there, stands, stands_in, step_by, step_in, step_with, then_advance, with_merged, with_new, with_region, wrote}
+use Rattle.rs_store.specs.Stores as stores
 use Rattle.rs_gen.specs.declared.kept.Kept.{Kept}
 use Rattle.rs_gen.specs.Rounds.{child, child_entries, cut, entry_at, first_write, last_write, main_entries, main_write, second_write, version}
 use Rattle.rs_gen.specs.Inputs.{kept, main_log, rounds_of, store_of}

@@ -2,7 +2,7 @@
 use Rattle.std.proofs.Common.{◌≡◌, refl, ℕ, ◌==◌, Bool, true, ◌&&◌, List, [], ◌∷◌, nat_eq}
 use Rattle.std.proofs.lemmas.Bool.{and_from, eq-eqb}
 use Rattle.rs_key.specs.Keys.{same_bytes}
-use Rattle.rs_key.specs.Lists.{same_lists}
+use Rattle.rs_rows.specs.Lists.{same_lists}
 use Rattle.rs_key.specs.Epochs.{same_epochs}
 use Rattle.rs_key.specs.declared.epoch.Epoch.{Epoch}
 use Rattle.rs_entry.specs.declared.entry.Op.{Op}

@@ -5,8 +5,8 @@ use Rattle.std.specs.List.{find, range_with_len}
 use Rattle.std.proofs.lemmas.Bool.{cases_eq, cases_lt, eq-eqb, ne_eqb}
 use Rattle.rs_entry.specs.declared.input.Store.{Store}
 use Rattle.rs_entry.specs.declared.outcome.Mode.TheVariants as mode
-use Rattle.rs_order.specs.declared.regions.Made.{Made}
-use Rattle.rs_order.specs.Stores.{Applied, ByRegion, is_live, is_paused, is_ready, next, own, ready_in, ready_with, with_region}
+use Rattle.rs_store.specs.declared.regions.Made.{Made}
+use Rattle.rs_store.specs.Stores.{Applied, ByRegion, is_live, is_paused, is_ready, next, own, ready_in, ready_with, with_region}
 use Rattle.rs_gen.specs.Rounds.{child}
 
 -- a region that has been taken over

@@ -8,7 +8,7 @@ use Rattle.std.proofs.lemmas.List.{append-nil}
 use Rattle.rs_entry.specs.declared.entry.Entry.{Entry}
 use Rattle.rs_entry.specs.declared.input.Log.{Log}
 use Rattle.rs_entry.specs.Entries.{entry_of}
-use Rattle.rs_order.specs.Stores.{add_all, entries_of, ids_in, ids_in_log, ids_of, insert_id, own}
+use Rattle.rs_store.specs.Stores.{add_all, entries_of, ids_in, ids_in_log, ids_of, insert_id, own}
 use Rattle.rs_gen.specs.declared.kept.Kept.{Kept}
 use Rattle.rs_gen.specs.Rounds.{child, child_entries, main_entries}
 use Rattle.rs_gen.specs.Inputs.{child_log, kept, main_log, rounds, rounds_of, store_of}

@@ -12,8 +12,8 @@ use Rattle.rs_entry.specs.declared.law_fault.Statement.{Statement}
 use Rattle.rs_entry.specs.declared.law_fault.Statement.TheVariants as said
 use Rattle.rs_entry.specs.Entries.{entry_of}
 use Rattle.rs_entry.specs.Equality.{same_carried, same_entries}
-use Rattle.rs_order.specs.Stores.{first_some}
-use Rattle.rs_value.proofs.Members.{among_all, among_find}
+use Rattle.rs_store.specs.Stores.{first_some}
+use Rattle.rs_part.proofs.Members.{among_all, among_find}
 use Rattle.rs_check.specs.Laws.{Named, differ_fault, differ_law, first_reused, ids_said, is_id, is_named, is_reused, names_in, naming, overlap_law, reused_at, reused_id, reused_in, reused_law}
 use Rattle.rs_check.specs.Statements.{Stated, differ_from, entry_stated, first_differ, is_about, log_stated, of_boot, of_carried, same_statements, stated, store_stated}
 use Rattle.rs_gen.specs.declared.kept.Kept.{Kept}

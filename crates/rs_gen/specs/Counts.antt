@@ -2,7 +2,7 @@
 use Rattle.std.specs.Prelude.{◌≡◌, ℕ, ◌+◌, ◌-◌, ◌*◌, length}
 use Rattle.std.specs.List.{sum_by}
 use Rattle.rs_entry.specs.declared.input.Input.{Input}
-use Rattle.rs_order.specs.Stores.{Broke, Stepped, Went, last}
+use Rattle.rs_store.specs.Stores.{Broke, Stepped, Went, last}
 use Rattle.rs_check.specs.Plans.{rows_of}
 use Rattle.rs_gen.specs.Inputs.{rounds_of}
 

@@ -107,7 +107,7 @@ fn add_child_log(
     logs.push(child_log(alloc, round, count)?)
 }
 
-/// The log of that region, with so many entries.
+/// Returns the log of that region, with `count` entries.
 #[tactic(auto, using(crate::proofs::Ranges::one_log))]
 fn child_log(alloc: Global, round: Round, count: usize) -> Result<Log, NoMemory>
     requires some { 0 < count }

@@ -8,7 +8,5 @@
 mod inputs;
 mod kept;
 mod round;
-#[cfg(test)]
-mod tests;
 
 pub use inputs::make;

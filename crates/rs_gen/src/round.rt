@@ -1,7 +1,7 @@
 ghost use Rattle.std.specs.Prelude.{◌≡◌, ◌<◌, ◌≤◌, ◌++◌, ◌∷◌, [], IfOk, OnOk};
 ghost use Rattle.rs_gen.specs.Rounds.{byte_in, child, cut, version, low, high, put, delete, carried_at, entry_at, first_write, second_write, main_write, last_write, child_entries, main_entries};
 
-use rs_entry::{Body, Carried, CarriedBody, Entry, Op, Side};
+use rs_entry::{Body, Carried, CarriedBody, Entry, FIRST_INDEX, Op, Side};
 use rs_key::{Bytes, Epoch, Key, NoMemory, Rows, Value};
 use std::alloc::Global;
 
@@ -73,7 +73,7 @@ impl Round {
         let first = CarriedBody::Write(self.first_write(alloc)?);
         let second = CarriedBody::Write(self.second_write(alloc)?);
         let mut entries = Rows::with_room(alloc, 3);
-        entries.push(carried_at(6, version, first))?;
+        entries.push(carried_at(FIRST_INDEX, version, first))?;
         entries.push(carried_at(7, version, second))?;
         entries.push(carried_at(8, version, CarriedBody::Prepare { target: 1 }))?;
         Ok(entries)
@@ -88,7 +88,7 @@ impl Round {
         let split = self.split(alloc)?;
         let last = Body::Write(self.last_write(alloc)?);
         let commit = self.commit(alloc)?;
-        let index = 6 + 4 * self.nth;
+        let index = FIRST_INDEX + 4 * self.nth;
         entries.push(entry_at(index, version, write))?;
         entries.push(entry_at(index + 1, version, split))?;
         entries.push(entry_at(index + 2, version + 1, last))?;

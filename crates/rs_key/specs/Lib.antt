@@ -2,5 +2,4 @@ pub mod Cutting
 pub mod Epochs
 pub mod Held
 pub mod Keys
-pub mod Lists
 pub mod Ranges

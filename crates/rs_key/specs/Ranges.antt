@@ -3,7 +3,7 @@ use Rattle.std.specs.Prelude.{ℕ, suc, List, [], ◌∷◌, Option, Some, None,
 use Rattle.std.specs.Ordering.{nat_cmp, is_le}
 use Rattle.std.specs.Cmp.Lexicographic.{slice_cmp}
 use Rattle.rs_key.specs.Keys.{same_bytes, is_below, is_key}
-use Rattle.rs_key.specs.Lists.{same_options}
+use Rattle.rs_rows.specs.Lists.{same_options}
 
 -- the two bounds of a range, each of which may be missing
 pub record Bounds : Type 0 where

@@ -1,8 +1,7 @@
 ghost use Rattle.std.specs.Prelude.{◌≡◌, ◌<◌, ◌≤◌, [], length, take, IfOk, OnErr};
 
-use crate::copies::TryClone;
-use crate::no_memory::NoMemory;
 use crate::short::Short;
+use rs_rows::{NoMemory, TryClone};
 use std::alloc::Global;
 use std::marker::Model;
 

@@ -5,8 +5,7 @@ ghost use Rattle.std.specs.Cmp.{partial_equiv_from_equiv};
 ghost use Rattle.rs_key.specs.Keys.{same_bytes};
 
 use crate::bytes::Bytes;
-use crate::copies::TryClone;
-use crate::no_memory as memory;
+use rs_rows::TryClone;
 use std::alloc::Global;
 use std::cmp::Ordering;
 use std::marker::Model;
@@ -23,13 +22,13 @@ pub enum KeyError {
     NoMemory,
 }
 
-impl From<memory::NoMemory> for KeyError {
+impl From<rs_rows::NoMemory> for KeyError {
     ghost use Rattle.std.specs.Prelude.{◌≡◌};
     ghost use Rattle.rs_key.specs.declared.key.KeyError.TheVariants as why;
 
     ghost from_gives = { λ _ e. e ≡ why.NoMemory };
 
-    fn from(_e: memory::NoMemory) -> KeyError {
+    fn from(_e: rs_rows::NoMemory) -> KeyError {
         KeyError::NoMemory
     }
 }
@@ -88,7 +87,7 @@ impl Key {
 }
 
 impl TryClone for Key {
-    fn try_clone(&self) -> Result<Key, memory::NoMemory> {
+    fn try_clone(&self) -> Result<Key, rs_rows::NoMemory> {
         Ok(Key {
             bytes: self.bytes.try_clone()?,
         })

@@ -3,12 +3,11 @@ ghost use Rattle.rs_key.specs.Ranges.{is_range, holds, is_next_to, join, bad_cut
 ghost use Rattle.rs_key.specs.Cutting.{IsCauseOfCut};
 
 use crate::bounds::{is_below, is_from, is_past, is_range, is_to, meets};
-use crate::copies::TryClone;
 use crate::key::Key;
-use crate::no_memory::NoMemory;
-use crate::rows::Rows;
+use rs_rows::{NoMemory, Rows, TryClone};
 use std::alloc::Global;
 use std::marker::Model;
+use thiserror::Error;
 
 /// The keys from the start on and below the end; a bound that is missing bounds nothing.
 ///
@@ -31,18 +30,21 @@ impl Model for Range {
 }
 
 /// Two bounds with no key between them, handed back.
-#[derive(Debug, Drop)]
+#[derive(Debug, Drop, Error)]
+#[error("the bounds have no key between them")]
 pub struct Empty {
     pub start: Option<Key>,
     pub end: Option<Key>,
 }
 
 /// Why a range wasn't cut.
-#[derive(Clone, Copy, Debug, PartialEq, Eq)]
+#[derive(Clone, Copy, Debug, PartialEq, Eq, Error)]
 pub enum CutError {
     /// The key at this place, counted from 1, isn't above the one before it or isn't below the end.
+    #[error("key {0} isn't above the key before it, or isn't below the end")]
     BadCut(usize),
     /// Memory ran out.
+    #[error("out of memory")]
     NoMemory,
 }
 

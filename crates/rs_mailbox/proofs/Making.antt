@@ -7,14 +7,14 @@ use mathlib.Core.List.{map-append}
 use Rattle.std.proofs.lemmas.List.{length-append}
 use Rattle.atomic_table.specs.Table.{Me, takes, gives, rest, put_back, Allows, Splits, opening}
 use Rattle.atomic_table.proofs.Lists.{at_set, at_map, set_again}
-use Rattle.rs_mailcore.specs.declared.stances.Phase.TheVariants.{Calm, Holding}
-use Rattle.rs_mailcore.specs.declared.stances.Stance.{Stance}
+use Rattle.rs_mailcore.specs.declared.thread.Phase.TheVariants.{Calm, Holding}
+use Rattle.rs_mailcore.specs.declared.thread.Stance.{Stance}
 use Rattle.rs_mailcore.specs.Words.{IsResting, IsHolding, IsReleasing, stance, announcements, idle, held}
 use Rattle.rs_mailcore.specs.Tidy.{IsTidy}
 use Rattle.rs_mailcore.proofs.Keeps.{puts_home}
 use Rattle.rs_mailcore.proofs.Joins.{joins}
 use Rattle.rs_mailbox.specs.declared.view.View.{View}
-use Rattle.rs_mailbox.specs.declared.lodger.Lodging.{Lodging}
+use Rattle.rs_mailbox.specs.declared.stored.Stored.{Stored}
 use Rattle.rs_mailbox.specs.Order.{stance_of, Place, home_count, newcomer, IsOrderly}
 use Rattle.rs_mailbox.specs.Steps as told
 use Rattle.rs_mailbox.specs.Making.{with_more, newest}
@@ -67,7 +67,7 @@ none_some x e = subst is_none e tt
 
 module _ {T N : Type 0} (name_of : T → N) (count_of : T → ℕ) (key : T) where
   abbrev M : Type 0
-  M = Me (Option (Lodging T)) (View N)
+  M = Me (Option (Stored T)) (View N)
 
   pub opens : IsOrderly {N = N} name_of count_of key (opening (3 ∷ 0 ∷ []) (None ∷ []) (newcomer (name_of key)))
   opens = let v : View N = newcomer (name_of key) in record {
@@ -105,7 +105,7 @@ module _ {T N : Type 0} (name_of : T → N) (count_of : T → ℕ) (key : T) whe
         told = (refl, refl);
       }))
 
-  pub settles : (slots id : ℕ) (me : M) (x : Lodging T) → me.1 ≡ (0, Some x) ∷ rest me.1 → me.0.unborn ≡ true → me.0.empty ≡ false → me.0.stance ≡ stance Holding 0 0 → x.handled ≡ 0 → name_of x.value ≡ me.0.name → count_of x.value ≡ 0
+  pub settles : (slots id : ℕ) (me : M) (x : Stored T) → me.1 ≡ (0, Some x) ∷ rest me.1 → me.0.unborn ≡ true → me.0.empty ≡ false → me.0.stance ≡ stance Holding 0 0 → x.handled ≡ 0 → name_of x.value ≡ me.0.name → count_of x.value ≡ 0
       → Allows (IsOrderly name_of count_of key) slots id me 0 (λ _. 1) (λ _. told.settled me 1)
   settles slots id me x has u full is none_yet named uncounted = on_state name_of count_of key slots id me (λ _. 1) (λ n three e. absurd (let t = three u in omega arith)) (λ _. told.settled me 1) (λ home stances word announced f.
       let w : Stance = stance Calm 0 0 in let one = f.unborn u in let sum : announcements stances ≡ 0 = single stances id me.0.stance one.1 f.at ∙ ap (λ (s : Stance). s.announced) is in let counted = f.tidy.counted in record {
@@ -116,7 +116,7 @@ module _ {T N : Type 0} (name_of : T → N) (count_of : T → ℕ) (key : T) whe
         lands = ap (put_back (home ∷ [])) has;
         tidy = puts_home stances id me.0.stance w f.at 1 announced x.handled (home_count home) (subst (λ n. IsTidy n announced (home_count home) stances) one.0 f.tidy) (subst (λ (s : Stance). IsHolding s.phase) (sym is) tt) (λ h. h) (inr refl)
             (ap (λ (s : Stance). s.announced) (sym is)) (let zero_found = ap (λ (s : Stance). s.remembered) is in omega arith) (λ r. absurd r) (λ e less. absurd (omega arith));
-        fits = λ y e. let same : x ≡ y = some_inner x y (some-injective (Some x) (Some y) e) in subst (λ (z : Lodging T). (name_of z.value ≡ name_of key) × (count_of z.value ≡ z.handled)) same (named ∙ f.name, uncounted ∙ sym none_yet);
+        fits = λ y e. let same : x ≡ y = some_inner x y (some-injective (Some x) (Some y) e) in subst (λ (z : Stored T). (name_of z.value ≡ name_of key) × (count_of z.value ≡ z.handled)) same (named ∙ f.name, uncounted ∙ sym none_yet);
         name = refl;
         number = refl;
         made = refl;
@@ -126,7 +126,7 @@ module _ {T N : Type 0} (name_of : T → N) (count_of : T → ℕ) (key : T) whe
         told = (refl, refl);
       })
 
-  pub settles_at : (slots id : ℕ) (me : M) (v : View N) (x : Lodging T) (c : List (ℕ × Option (Lodging T))) → me ≡ (v, (0, Some x) ∷ c) → v.unborn ≡ true → v.empty ≡ false → v.stance ≡ stance Holding 0 0 → x.handled ≡ 0 → name_of x.value ≡ v.name → count_of x.value ≡ 0
+  pub settles_at : (slots id : ℕ) (me : M) (v : View N) (x : Stored T) (c : List (ℕ × Option (Stored T))) → me ≡ (v, (0, Some x) ∷ c) → v.unborn ≡ true → v.empty ≡ false → v.stance ≡ stance Holding 0 0 → x.handled ≡ 0 → name_of x.value ≡ v.name → count_of x.value ≡ 0
       → Allows (IsOrderly name_of count_of key) slots id me 0 (λ _. 1) (λ _. told.settled me 1)
   settles_at slots id me v x c e u full is none_yet named uncounted = subst (λ (m : M). Allows (IsOrderly name_of count_of key) slots id m 0 (λ _. 1) (λ _. told.settled m 1)) (sym e) (settles slots id (v, (0, Some x) ∷ c) x refl u full is none_yet named uncounted)
 

@@ -6,10 +6,10 @@ use lib.Seq.{map-set}
 use Rattle.std.proofs.lemmas.List.{length-map}
 use Rattle.atomic_table.specs.Table.{State, Me, Act, Valid, homes_after, carried_after, Allows}
 use Rattle.atomic_table.proofs.Lists.{at_set, at_map}
-use Rattle.rs_mailcore.specs.declared.stances.Stance.{Stance}
+use Rattle.rs_mailcore.specs.declared.thread.Stance.{Stance}
 use Rattle.rs_mailcore.specs.Tidy.{IsTidy}
 use Rattle.rs_mailbox.specs.declared.view.View.{View}
-use Rattle.rs_mailbox.specs.declared.lodger.Lodging.{Lodging}
+use Rattle.rs_mailbox.specs.declared.stored.Stored.{Stored}
 use Rattle.rs_mailbox.specs.Order.{stance_of, Place, home_count, Fits, IsOrderly}
 
 pub below : {A : Type 0} (l : List A) (i : ℕ) (a : A) → get_elem? l i ≡ some a → i < length l
@@ -23,15 +23,15 @@ not_two l i j a b e f n one = let p = below l i a e in let q = below l j b f in 
 
 module _ {T N : Type 0} (name_of : T → N) (count_of : T → ℕ) (key : T) where
   abbrev M : Type 0
-  M = Me (Option (Lodging T)) (View N)
+  M = Me (Option (Stored T)) (View N)
 
   abbrev St : Type 0
-  St = State (Option (Lodging T)) (View N)
+  St = State (Option (Stored T)) (View N)
 
   -- how a hand goes on: its new view, what it does with the slot, and what is at home afterwards
   pub record Goes (id : ℕ) (me : M) (home : Place T) (stances : List Stance) (word announced : ℕ) (then : M → Type 0) : Type 0 where
     pub view : View N
-    pub act : Act (Option (Lodging T))
+    pub act : Act (Option (Stored T))
     pub left : Place T
     pub valid : Valid (home ∷ []) me.1 act
     pub lands : homes_after (home ∷ []) me.1 act ≡ left ∷ []

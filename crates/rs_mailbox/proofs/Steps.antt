@@ -7,18 +7,18 @@ use prog.Atomic.{either}
 use lib.ListN.{get_elem?}
 use Rattle.atomic_table.specs.Table.{Me, keeps, takes, gives, rest, put_back, Allows}
 use Rattle.atomic_table.proofs.Lists.{exchanged}
-use Rattle.rs_mailcore.specs.declared.stances.Phase.{Phase}
-use Rattle.rs_mailcore.specs.declared.stances.Phase.TheVariants.{Calm, Notifying, Holding, Releasing}
+use Rattle.rs_mailcore.specs.declared.thread.Phase.{Phase}
+use Rattle.rs_mailcore.specs.declared.thread.Phase.TheVariants.{Calm, Notifying, Holding, Releasing}
 use Rattle.rs_mailbox.specs.declared.view.Kind.{Kind}
 use Rattle.rs_mailbox.specs.declared.view.Kind.TheVariants.{Announce, Notify, Take, Release, Recheck, Retake, Close, Look, Reschedule}
-use Rattle.rs_mailcore.specs.declared.stances.Stance.{Stance}
+use Rattle.rs_mailcore.specs.declared.thread.Stance.{Stance}
 use Rattle.rs_mailbox.specs.declared.view.Deed.{Deed}
 use Rattle.rs_mailcore.specs.Words.{IsResting, IsHolding, IsReleasing, IsWatching, stance, announcements, notified, idle, dropped}
 use Rattle.rs_mailcore.specs.Tidy.{Holds, IsTidy}
 use Rattle.rs_mailcore.proofs.Lists.{set_there, set_else, announcements-set}
 use Rattle.rs_mailcore.proofs.Keeps.{restances, takes_out, puts_home, closes, hands_out}
 use Rattle.rs_mailbox.specs.declared.view.View.{View}
-use Rattle.rs_mailbox.specs.declared.lodger.Lodging.{Lodging}
+use Rattle.rs_mailbox.specs.declared.stored.Stored.{Stored}
 use Rattle.rs_mailbox.specs.Order.{Place, home_count, IsOrderly}
 use Rattle.rs_mailbox.specs.Steps as told
 use Rattle.rs_mailbox.specs.Steps.{deed, moved, turns, brought, Gets}
@@ -59,7 +59,7 @@ rests? word = dite (ℕ_discrete word 0) (λ e. yes (inl e)) (λ n. dite (ℕ_di
 
 module _ {T N : Type 0} (name_of : T → N) (count_of : T → ℕ) (key : T) where
   abbrev M : Type 0
-  M = Me (Option (Lodging T)) (View N)
+  M = Me (Option (Stored T)) (View N)
 
   module _ (slots id : ℕ) (me : M) where
     abbrev v : View N
@@ -186,7 +186,7 @@ module _ {T N : Type 0} (name_of : T → N) (count_of : T → ℕ) (key : T) whe
     held_phase is = subst IsHolding (sym is) tt
 
     -- the holder brings the value x home: the word becomes `next` where it was Held, and stays where it is Drop
-    module _ (x : Lodging T) (has : me.1 ≡ (0, Some x) ∷ rest me.1) (low : v.stance.remembered ≤ x.handled) (fits : (name_of x.value ≡ v.name) × (count_of x.value ≡ x.handled)) (is : v.stance.phase ≡ Holding) where
+    module _ (x : Stored T) (has : me.1 ≡ (0, Some x) ∷ rest me.1) (low : v.stance.remembered ≤ x.handled) (fits : (name_of x.value ≡ v.name) × (count_of x.value ≡ x.handled)) (is : v.stance.phase ≡ Holding) where
       brings : brought me.1 ≡ x.handled
       brings = ap brought has
 
@@ -199,7 +199,7 @@ module _ {T N : Type 0} (name_of : T → N) (count_of : T → ℕ) (key : T) whe
         valid = tt;
         lands = ap (put_back (home ∷ [])) has;
         tidy = puts_home stances id v.stance w f.at next announced x.handled (home_count home) f.tidy (held_phase is) free rests refl low (λ r. brings) releases;
-        fits = λ y e. let same : x ≡ y = some_inner x y (some-injective (Some x) (Some y) e) in subst (λ (z : Lodging T). (name_of z.value ≡ name_of key) × (count_of z.value ≡ z.handled)) same (fits.0 ∙ f.name, fits.1);
+        fits = λ y e. let same : x ≡ y = some_inner x y (some-injective (Some x) (Some y) e) in subst (λ (z : Stored T). (name_of z.value ≡ name_of key) × (count_of z.value ≡ z.handled)) same (fits.0 ∙ f.name, fits.1);
         name = refl;
         number = refl;
         made = refl;
@@ -273,14 +273,14 @@ module _ {T N : Type 0} (name_of : T → N) (count_of : T → ℕ) (key : T) whe
         (λ not. still home stances word 2 announced (told.closed name_of count_of me word) f Calm v.stance.remembered (deed Close word 0) (λ b. refl) (calm_free Calm is (λ h. h)) (λ h. h) (omega arith) (λ r. absurd (not r)) (λ r. absurd (dropped_out r)) (λ e. absurd (omega arith)) (λ n. absurd (n refl)) (λ r. absurd r) (λ e. absurd (omega arith))
         ((λ a b. absurd (⊎_elim a b (out_word word f.tidy.known not))), λ _. (refl, refl))))
 
-  pub carries : (me : M) (v : View N) (x : Option (Lodging T)) (c : List (ℕ × Option (Lodging T))) → me ≡ (v, (0, x) ∷ c) → me.1 ≡ (0, x) ∷ rest me.1
+  pub carries : (me : M) (v : View N) (x : Option (Stored T)) (c : List (ℕ × Option (Stored T))) → me ≡ (v, (0, x) ∷ c) → me.1 ≡ (0, x) ∷ rest me.1
   carries me v x c e = let t : me.1 ≡ (0, x) ∷ c = ap (λ (m : M). m.1) e in t ∙ ap (λ l. (0, x) ∷ l) (sym (ap rest t))
 
-  pub releases_at : (slots id : ℕ) (me : M) (v : View N) (x : Lodging T) (c : List (ℕ × Option (Lodging T))) → me ≡ (v, (0, Some x) ∷ c) → v.stance.remembered ≤ x.handled → (name_of x.value ≡ v.name) × (count_of x.value ≡ x.handled) → v.stance.phase ≡ Holding
+  pub releases_at : (slots id : ℕ) (me : M) (v : View N) (x : Stored T) (c : List (ℕ × Option (Stored T))) → me ≡ (v, (0, Some x) ∷ c) → v.stance.remembered ≤ x.handled → (name_of x.value ≡ v.name) × (count_of x.value ≡ x.handled) → v.stance.phase ≡ Holding
       → Allows (IsOrderly name_of count_of key) slots id me 0 (λ n. either (eqb n 3) 1 n) (told.released me)
   releases_at slots id me v x c e low fits is = subst (λ (m : M). Allows (IsOrderly name_of count_of key) slots id m 0 (λ n. either (eqb n 3) 1 n) (told.released m)) (sym e) (releases slots id (v, (0, Some x) ∷ c) x refl low fits is)
 
-  pub reschedules_at : (slots id : ℕ) (me : M) (v : View N) (x : Lodging T) (c : List (ℕ × Option (Lodging T))) → me ≡ (v, (0, Some x) ∷ c) → v.stance.remembered ≤ x.handled → (name_of x.value ≡ v.name) × (count_of x.value ≡ x.handled) → v.stance.phase ≡ Holding
+  pub reschedules_at : (slots id : ℕ) (me : M) (v : View N) (x : Stored T) (c : List (ℕ × Option (Stored T))) → me ≡ (v, (0, Some x) ∷ c) → v.stance.remembered ≤ x.handled → (name_of x.value ≡ v.name) × (count_of x.value ≡ x.handled) → v.stance.phase ≡ Holding
       → Allows (IsOrderly name_of count_of key) slots id me 0 (λ n. either (eqb n 3) 0 n) (told.rescheduled me)
   reschedules_at slots id me v x c e low fits is = subst (λ (m : M). Allows (IsOrderly name_of count_of key) slots id m 0 (λ n. either (eqb n 3) 0 n) (told.rescheduled m)) (sym e) (reschedules slots id (v, (0, Some x) ∷ c) x refl low fits is)
 

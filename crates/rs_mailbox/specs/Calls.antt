@@ -1,6 +1,6 @@
 -- What a release and a close leave in the hand's view.
 use Rattle.std.specs.Prelude.{◌≡◌, ◌≢◌, ℕ, ◌<◌, ◌≤◌, ◌⊎◌}
-use Rattle.rs_mailcore.specs.declared.stances.Phase.TheVariants.{Calm, Holding, Releasing}
+use Rattle.rs_mailcore.specs.declared.thread.Phase.TheVariants.{Calm, Holding, Releasing}
 use Rattle.rs_mailbox.specs.declared.view.Kind.TheVariants.{Release, Recheck, Retake, Close}
 use Rattle.rs_mailcore.specs.Words.{IsResting}
 use Rattle.rs_mailbox.specs.declared.view.View.{View}
@@ -16,7 +16,7 @@ module _ {N T : Type 0} where
   abbrev pub Releases : View N → ℕ → Back T → View N → Type 0
   Releases v h Idle w = ((a : ℕ) × (a ≤ h) × (w ≡ turns (turns v Releasing h (deed Release 3 h)) Calm h (deed Recheck a 0)))
       ⊎ ((a : ℕ) × (found : ℕ) × (h < a) × (found ≢ 1) × (w ≡ turns (turns (turns v Releasing h (deed Release 3 h)) Releasing h (deed Recheck a 0)) Calm h (deed Retake found 0)))
-  Releases v h (Again x) w = (a : ℕ) × (h < a) × (w ≡ turns (turns (turns v Releasing h (deed Release 3 h)) Releasing h (deed Recheck a 0)) Holding x.lodging.handled (deed Retake 1 x.lodging.handled))
+  Releases v h (Again x) w = (a : ℕ) × (h < a) × (w ≡ turns (turns (turns v Releasing h (deed Release 3 h)) Releasing h (deed Recheck a 0)) Holding x.stored.handled (deed Retake 1 x.stored.handled))
   Releases v h (Dropped x) w = w ≡ turns v Calm h (deed Release 2 h)
 
   abbrev pub Closes : View N → Shut T → View N → Type 0

@@ -24,4 +24,4 @@ module _ {T N : Type 0} where
 
   -- this hand took the value, which has the handover's name, and its count is the handled count
   abbrev pub IsHeldBy : (T → N) → (T → ℕ) → Handover T N → Hand T N → Held T → Type 0
-  IsHeldBy name_of count_of h hand held = IsHeldOf name_of count_of (name_of h.table.shared.key) hand.seat held.lodging
+  IsHeldBy name_of count_of h hand held = IsHeldOf name_of count_of (name_of h.table.shared.key) hand.seat held.stored

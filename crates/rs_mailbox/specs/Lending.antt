@@ -5,7 +5,7 @@ use Rattle.rs_mailbox.specs.declared.held.Held.{Held}
 use Rattle.rs_mailbox.specs.contracts.held.Held.{the_row}
 
 abbrev pub with_value : {T : Type 0} → Held T → T → Held T
-with_value h x = record h { lodging = record h.lodging { value = x } }
+with_value h x = record h { stored = record h.stored { value = x } }
 
 abbrev pub LendsValue : (R : RattleType) → MutBor (Held R.Denot) → MutBor R.Denot → Fml
 LendsValue R s r = Lends (the_row R) R s r (with_value s.now)

@@ -7,7 +7,7 @@ use Rattle.rs_mailbox.specs.contracts.turn.Turn.{the_row}
 
 module _ (F M P : RattleType) (m : Ghosts M.Denot P.Denot) where
   abbrev pub with_machine : Turn F.Denot M.Denot P.Denot m → F.Denot → Turn F.Denot M.Denot P.Denot m
-  with_machine t x = record t { held = record t.held { lodging = record t.held.lodging { value = record t.held.lodging.value { machine = x } } } }
+  with_machine t x = record t { held = record t.held { stored = record t.held.stored { value = record t.held.stored.value { machine = x } } } }
 
   abbrev pub LendsMachine : MutBor (Turn F.Denot M.Denot P.Denot m) → MutBor F.Denot → Fml
   LendsMachine s r = Lends (the_row F M P m) F s r (with_machine s.now)

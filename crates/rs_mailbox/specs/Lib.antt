@@ -8,7 +8,7 @@ pub mod Calls
 pub mod Lending
 pub mod InOrder
 pub mod Passes
-pub mod Berths
+pub mod ContentsNames
 pub mod Mail
 pub mod Stations
 pub mod LentMachine

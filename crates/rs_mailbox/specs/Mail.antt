@@ -2,7 +2,7 @@
 use Rattle.std.specs.Prelude.{◌≡◌, ◌≢◌, ℕ, ◌+◌, ◌^◌, ◌<◌, ◌≤◌, ◌⊎◌, Option, MatchOption, Result}
 use Rattle.std.specs.declared.result.Result.TheVariants.{Ok, Err}
 use Rattle.rs_mailcore.specs.declared.named.Named.{Ghosts}
-use Rattle.rs_mailcore.specs.declared.stances.Phase.TheVariants.{Calm, Notifying, Holding, Releasing}
+use Rattle.rs_mailcore.specs.declared.thread.Phase.TheVariants.{Calm, Notifying, Holding, Releasing}
 use Rattle.rs_mailcore.specs.Words.{IsResting}
 use Rattle.rs_mailbox.specs.declared.view.View.{View}
 use Rattle.rs_mailbox.specs.declared.view.Kind.TheVariants.{Announce, Notify, Take, Look, Release, Recheck, Retake, Close, Reschedule}
@@ -56,14 +56,14 @@ module _ {F M P : Type 0} {m : Ghosts M P} where
 
   -- of the view before, the answer and the view after: the machine comes exactly where the word found was Notified
   abbrev pub Takes : {N : Type 0} → View N → Taken F M P m → View N → Type 0
-  Takes v (Machine t) w = w ≡ turns v Holding t.held.lodging.handled (deed Take 0 t.held.lodging.handled)
+  Takes v (Machine t) w = w ≡ turns v Holding t.held.stored.handled (deed Take 0 t.held.stored.handled)
   Takes v (Not word) w = (word ≢ 0) × (w ≡ turns v Calm v.stance.remembered (deed Take word 0))
 
   -- of the view before, the handled count and the machine that are given back, the answer and the view after
   abbrev pub Gives : {N : Type 0} → View N → ℕ → F → Released F M P m → View N → Type 0
   Gives v h x Idle w = ((announced : ℕ) × (announced ≤ h) × (w ≡ rested v h announced))
       ⊎ ((announced : ℕ) × (found : ℕ) × (h < announced) × (found ≢ 1) × (w ≡ turns (rechecked v h announced) Calm h (deed Retake found 0)))
-  Gives v h x (Again t) w = (announced : ℕ) × (h < announced) × (w ≡ turns (rechecked v h announced) Holding t.held.lodging.handled (deed Retake 1 t.held.lodging.handled))
+  Gives v h x (Again t) w = (announced : ℕ) × (h < announced) × (w ≡ turns (rechecked v h announced) Holding t.held.stored.handled (deed Retake 1 t.held.stored.handled))
   Gives v h x (Dropped y) w = (y ≡ x) × (w ≡ turns v Calm h (deed Release 2 h))
 
   abbrev pub OnAgain : Released F M P m → (Turn F M P m → Type 0) → Type 0

@@ -1,11 +1,11 @@
 -- How the first hand splits off the next one.
 use Rattle.std.specs.Prelude.{◌≡◌, ℕ, ◌+◌, false, [], Option}
-use Rattle.rs_mailcore.specs.declared.stances.Phase.TheVariants.{Calm}
+use Rattle.rs_mailcore.specs.declared.thread.Phase.TheVariants.{Calm}
 use Rattle.rs_mailcore.specs.Words.{stance}
 use Rattle.atomic_table.specs.Seated.{TableId}
 use Rattle.atomic_table.specs.declared.shared.Seat.{Seat}
 use Rattle.rs_mailbox.specs.declared.view.View.{View}
-use Rattle.rs_mailbox.specs.declared.lodger.Lodging.{Lodging}
+use Rattle.rs_mailbox.specs.declared.stored.Stored.{Stored}
 use Rattle.rs_mailbox.specs.Steps.{IsSeatOf}
 
 abbrev pub fresh : {N : Type 0} → N → ℕ → View N
@@ -19,5 +19,5 @@ module _ {N : Type 0} where
   newest v = fresh v.name v.made
 
 -- a calm hand that has made no step
-abbrev pub IsNewHand : {T N : Type 0} → TableId → N → Seat (Option (Lodging T)) (View N) → Type 0
+abbrev pub IsNewHand : {T N : Type 0} → TableId → N → Seat (Option (Stored T)) (View N) → Type 0
 IsNewHand id name s = IsSeatOf id name s × (s.me.1 ≡ []) × (s.me.0.stance ≡ stance Calm 0 0) × (s.me.0.deeds ≡ []) × (s.me.0.shut ≡ false)

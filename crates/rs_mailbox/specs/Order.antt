@@ -4,12 +4,12 @@ use mathlib.Core.Option.{none, some}
 use mathlib.Core.Option as opt
 use lib.ListN.{get_elem?}
 use Rattle.atomic_table.specs.Table.{State}
-use Rattle.rs_mailcore.specs.declared.stances.Stance.{Stance}
-use Rattle.rs_mailcore.specs.declared.stances.Phase.TheVariants.{Holding}
+use Rattle.rs_mailcore.specs.declared.thread.Stance.{Stance}
+use Rattle.rs_mailcore.specs.declared.thread.Phase.TheVariants.{Holding}
 use Rattle.rs_mailcore.specs.Words.{stance}
 use Rattle.rs_mailcore.specs.Tidy.{IsTidy}
 use Rattle.rs_mailbox.specs.declared.view.View.{View}
-use Rattle.rs_mailbox.specs.declared.lodger.Lodging.{Lodging}
+use Rattle.rs_mailbox.specs.declared.stored.Stored.{Stored}
 
 abbrev pub stance_of : {N : Type 0} → View N → Stance
 stance_of v = v.stance
@@ -19,9 +19,9 @@ newcomer name = record { name = name; number = 0; made = 1; unborn = true; empty
 
 -- what a slot's place holds: none while it is out, None while the handover is being made
 abbrev pub Place : Type 0 → Type 0
-Place T = opt.Option (Option (Lodging T))
+Place T = opt.Option (Option (Stored T))
 
-abbrev pub in_slot : {T : Type 0} → Option (Lodging T) → opt.Option ℕ
+abbrev pub in_slot : {T : Type 0} → Option (Stored T) → opt.Option ℕ
 in_slot None = none
 in_slot (Some x) = some x.handled
 
@@ -32,9 +32,9 @@ home_count (some h) = in_slot h
 module _ {T N : Type 0} (name_of : T → N) (count_of : T → ℕ) (key : T) where
   -- the value at home has the handover's name, and its count is the handled count
   abbrev pub Fits : Place T → Type 0
-  Fits home = (x : Lodging T) → home ≡ some (Some x) → (name_of x.value ≡ name_of key) × (count_of x.value ≡ x.handled)
+  Fits home = (x : Stored T) → home ≡ some (Some x) → (name_of x.value ≡ name_of key) × (count_of x.value ≡ x.handled)
 
-  pub record IsOrderly (s : State (Option (Lodging T)) (View N)) : Type 0 where
+  pub record IsOrderly (s : State (Option (Stored T)) (View N)) : Type 0 where
     pub word : ℕ
     pub announced : ℕ
     pub home : Place T

@@ -4,13 +4,13 @@ use mathlib.Core.Option.{some}
 use lib.ListN.{get_elem?}
 use Rattle.atomic_table.specs.Table.{State, Me}
 use Rattle.rs_mailbox.specs.declared.view.View.{View}
-use Rattle.rs_mailbox.specs.declared.lodger.Lodging.{Lodging}
+use Rattle.rs_mailbox.specs.declared.stored.Stored.{Stored}
 use Rattle.rs_mailbox.specs.Order.{IsOrderly}
 use Rattle.rs_mailbox.specs.Steps.{looked}
 
 module _ {T N : Type 0} (name_of : T → N) (count_of : T → ℕ) where
-  abbrev pub Stood : Me (Option (Lodging T)) (View N) → ℕ → Type 0
-  Stood m r = (s : State (Option (Lodging T)) (View N)) × (key : T) × (i : ℕ) × (name_of key ≡ m.0.name) × IsOrderly name_of count_of key s × (get_elem? s.views i ≡ some m.0) × (slice_index s.words 0 ≡ r)
+  abbrev pub Stood : Me (Option (Stored T)) (View N) → ℕ → Type 0
+  Stood m r = (s : State (Option (Stored T)) (View N)) × (key : T) × (i : ℕ) × (name_of key ≡ m.0.name) × IsOrderly name_of count_of key s × (get_elem? s.views i ≡ some m.0) × (slice_index s.words 0 ≡ r)
 
-  abbrev pub looked_at : Me (Option (Lodging T)) (View N) → ℕ → Me (Option (Lodging T)) (View N) → Type 0
+  abbrev pub looked_at : Me (Option (Stored T)) (View N) → ℕ → Me (Option (Stored T)) (View N) → Type 0
   looked_at m r n = looked m r n × Stood m r

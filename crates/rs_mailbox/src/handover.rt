@@ -2,12 +2,12 @@ ghost use Rattle.std.specs.Prelude.{◌≡◌, ◌≢◌, ℕ, ◌+◌, ◌^◌,
 
 use crate::hand::Hand;
 use crate::held::Held;
-use crate::lodger::{Lodger, Lodging};
 use crate::plays;
+use crate::stored::{HasCount, Stored};
 use crate::view::View;
 use atomic_table::{Seat, Table};
-use rs_key::{NoMemory, Rows};
 use rs_mailcore::Named;
+use rs_rows::{NoMemory, Rows};
 use std::alloc::Global;
 
 /// A value that threads hand to each other: it lies at home, or is out with one hand. The state word is 0 Notified,
@@ -18,8 +18,8 @@ use std::alloc::Global;
 /// was announced than handled, some hand is about to look; Drop stays. `look` tells it. What a hand did is in its view.
 /// That a notified value is ever taken no clause says.
 #[derive(Drop)]
-pub struct Handover<T: Lodger> {
-    pub(crate) table: Table<Option<Lodging<T>>, View<T::Name>, T, plays::Order<T>, Global>,
+pub struct Handover<T: HasCount> {
+    pub(crate) table: Table<Option<Stored<T>>, View<T::Name>, T, plays::Order<T>, Global>,
     ghost sized: { (table.shared.table_id.words ≡ 2) × (table.shared.table_id.slots ≡ 1) },
 }
 
@@ -45,7 +45,7 @@ pub enum Shut<T> {
     Already,
 }
 
-type Sitting<T, N> = Seat<Option<Lodging<T>>, View<N>>;
+type Sitting<T, N> = Seat<Option<Stored<T>>, View<N>>;
 
 const STATE: usize = 0;
 
@@ -59,7 +59,7 @@ const DROPPED: u64 = 2;
 
 const HELD: u64 = 3;
 
-impl<T: Lodger + Drop> Handover<T> {
+impl<T: HasCount + Drop> Handover<T> {
     ghost use Rattle.rs_mailbox.specs.Making.{IsNewHand};
     ghost use Rattle.rs_mailbox.specs.Hands.{handover_name, IsFresh};
 
@@ -75,7 +75,7 @@ impl<T: Lodger + Drop> Handover<T> {
         drop(
             table
                 .shared
-                .exchange(&mut seat, 0, Some(Lodging { value, handled: 0 })),
+                .exchange(&mut seat, 0, Some(Stored { value, handled: 0 })),
         );
         table.shared.store::<plays::Settle>(&mut seat, 0, 1);
         Ok((Handover { table }, seat))
@@ -91,7 +91,7 @@ impl<T: Lodger + Drop> Handover<T> {
         Hand { seat }
     }
 
-    /// An idle handover with the value at home, and so many calm hands that have made no step. The value's name becomes
+    /// Makes an idle handover with the value at home, and calm hands that have made no step. The value's name becomes
     /// the handover's.
     pub fn new(
         alloc: Global,
@@ -114,8 +114,8 @@ impl<T: Lodger + Drop> Handover<T> {
     }
 }
 
-impl<T: Lodger + Drop> Handover<T> {
-    ghost use Rattle.rs_mailcore.specs.declared.stances.Phase.TheVariants.{Calm, Notifying, Holding};
+impl<T: HasCount + Drop> Handover<T> {
+    ghost use Rattle.rs_mailcore.specs.declared.thread.Phase.TheVariants.{Calm, Notifying, Holding};
     ghost use Rattle.rs_mailbox.specs.declared.view.Kind.TheVariants.{Announce, Notify, Take, Look, Reschedule};
     ghost use Rattle.rs_mailbox.specs.Stood.{Stood};
     ghost use Rattle.rs_mailbox.specs.Calls.{Releases, Closes, OnAgain, OnDropped, OnValue};
@@ -156,7 +156,7 @@ impl<T: Lodger + Drop> Handover<T> {
         requires calm { (seen hand.old).stance.phase ≡ Calm }
         ensures hand { IsHandOf T.name self.now hand.new }
         ensures held { IfOk result (λ h. IsHeldBy T.name T.count self.now hand.new h) }
-        ensures step { MatchResult result (λ h. seen hand.new ≡ turns (seen hand.old) Holding h.lodging.handled (deed Take 0 h.lodging.handled)) (λ word. (word ≢ 0) × (seen hand.new ≡ turns (seen hand.old) Calm (seen hand.old).stance.remembered (deed Take word 0))) }
+        ensures step { MatchResult result (λ h. seen hand.new ≡ turns (seen hand.old) Holding h.stored.handled (deed Take 0 h.stored.handled)) (λ word. (word ≢ 0) × (seen hand.new ≡ turns (seen hand.old) Calm (seen hand.old).stance.remembered (deed Take word 0))) }
         ensures closed { MatchResult result (λ _. (seen hand.old).shut ≢ true) (λ word. (seen hand.old).shut ≡ true → word ≡ 2) }
     {
         let shared = &self.table.shared;
@@ -164,8 +164,8 @@ impl<T: Lodger + Drop> Handover<T> {
         if found != NOTIFIED {
             return Err(found);
         }
-        let lodging = shared.exchange(&mut hand.seat, 0, None).unwrap();
-        Ok(Held { lodging })
+        let stored = shared.exchange(&mut hand.seat, 0, None).unwrap();
+        Ok(Held { stored })
     }
 
     /// The state word. It also tells that the rule held of the two words, the value at home and the views of all hands
@@ -186,17 +186,17 @@ impl<T: Lodger + Drop> Handover<T> {
         requires hand { IsHandOf T.name self.now hand.old }
         requires held { IsHeldBy T.name T.count self.now hand.old held }
         ensures hand { IsHandOf T.name self.now hand.new }
-        ensures steps { Releases (seen hand.old) held.lodging.handled result (seen hand.new) }
+        ensures steps { Releases (seen hand.old) held.stored.handled result (seen hand.new) }
         ensures again { OnAgain result (λ x. IsHeldBy T.name T.count self.now hand.new x) }
-        ensures dropped { OnDropped result (λ x. x ≡ held.lodging.value) }
+        ensures dropped { OnDropped result (λ x. x ≡ held.stored.value) }
     {
-        let Held { lodging } = held;
-        let handled = lodging.handled;
+        let Held { stored } = held;
+        let handled = stored.handled;
         let shared = &self.table.shared;
-        drop(shared.exchange(&mut hand.seat, 0, Some(lodging)));
+        drop(shared.exchange(&mut hand.seat, 0, Some(stored)));
         let found = shared.compare_exchange::<plays::Release>(&mut hand.seat, STATE, HELD, IDLE);
         if found != HELD {
-            let Lodging { value, handled: _ } = shared.exchange(&mut hand.seat, 0, None).unwrap();
+            let Stored { value, handled: _ } = shared.exchange(&mut hand.seat, 0, None).unwrap();
             return Back::Dropped(value);
         }
         let announced = shared.load::<plays::Recheck>(&mut hand.seat, ANNOUNCED);
@@ -207,8 +207,8 @@ impl<T: Lodger + Drop> Handover<T> {
         if found != IDLE {
             return Back::Idle;
         }
-        let lodging = shared.exchange(&mut hand.seat, 0, None).unwrap();
-        Back::Again(Held { lodging })
+        let stored = shared.exchange(&mut hand.seat, 0, None).unwrap();
+        Back::Again(Held { stored })
     }
 
     /// Puts the value home and leaves the handover Notified. Err exactly where it found Drop: the value is the caller's.
@@ -216,11 +216,11 @@ impl<T: Lodger + Drop> Handover<T> {
         requires hand { IsHandOf T.name self.now hand.old }
         requires held { IsHeldBy T.name T.count self.now hand.old held }
         ensures hand { IsHandOf T.name self.now hand.new }
-        ensures step { MatchResult result (λ _. seen hand.new ≡ turns (seen hand.old) Calm held.lodging.handled (deed Reschedule 3 held.lodging.handled)) (λ x. (x ≡ held.lodging.value) × (seen hand.new ≡ turns (seen hand.old) Calm held.lodging.handled (deed Reschedule 2 held.lodging.handled))) }
+        ensures step { MatchResult result (λ _. seen hand.new ≡ turns (seen hand.old) Calm held.stored.handled (deed Reschedule 3 held.stored.handled)) (λ x. (x ≡ held.stored.value) × (seen hand.new ≡ turns (seen hand.old) Calm held.stored.handled (deed Reschedule 2 held.stored.handled))) }
     {
-        let Held { lodging } = held;
+        let Held { stored } = held;
         let shared = &self.table.shared;
-        drop(shared.exchange(&mut hand.seat, 0, Some(lodging)));
+        drop(shared.exchange(&mut hand.seat, 0, Some(stored)));
         let found = shared.compare_exchange::<plays::Reschedule>(
             &mut hand.seat,
             STATE,
@@ -228,7 +228,7 @@ impl<T: Lodger + Drop> Handover<T> {
             NOTIFIED,
         );
         if found != HELD {
-            let Lodging { value, handled: _ } = shared.exchange(&mut hand.seat, 0, None).unwrap();
+            let Stored { value, handled: _ } = shared.exchange(&mut hand.seat, 0, None).unwrap();
             return Err(value);
         }
         Ok(())
@@ -251,7 +251,7 @@ impl<T: Lodger + Drop> Handover<T> {
         if found == DROPPED {
             return Shut::Already;
         }
-        let Lodging { value, handled: _ } = shared.exchange(&mut hand.seat, 0, None).unwrap();
+        let Stored { value, handled: _ } = shared.exchange(&mut hand.seat, 0, None).unwrap();
         Shut::Value(value)
     }
 }

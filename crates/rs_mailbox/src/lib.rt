@@ -2,17 +2,17 @@
 //! message is taken at most once, in its sender's order, and the machine has one owner at a time.
 #![tactic(auto)]
 
-mod carriage;
+mod contents;
 mod hand;
 mod handover;
 mod held;
-mod lodger;
 mod mailbox;
 mod naming;
 mod outcomes;
 mod plays;
 mod queue;
 mod station;
+mod stored;
 #[cfg(test)]
 mod tests;
 mod ticket;
@@ -20,14 +20,14 @@ mod trail;
 mod turn;
 mod view;
 
-pub use carriage::{Berth, Carriage, Reader};
+pub use contents::{Contents, ContentsName, Reader};
 pub use hand::Hand;
 pub use handover::{Back, Handover, Shut};
 pub use held::Held;
-pub use lodger::{Lodger, Lodging};
 pub use mailbox::Mailbox;
 pub use outcomes::{Closed, Dropped, Released, SendError, Taken};
 pub use station::Station;
+pub use stored::{HasCount, Stored};
 pub use ticket::Ticket;
 pub use trail::{MessagePass, MessageQueue, Trail};
 pub use turn::Turn;

@@ -1,6 +1,6 @@
 ghost use Rattle.std.specs.Prelude.{◌≡◌, ◌≢◌, ◌+◌, ◌^◌, ◌<◌, ◌≤◌, true, length, All, Some, IfOk, IfSome, MatchOption, List, ◌∷◌};
 
-use crate::carriage::{Carriage, Reader};
+use crate::contents::{Contents, Reader};
 use crate::hand::Hand;
 use crate::handover::{Back, Handover, Shut};
 use crate::naming::open_queue;
@@ -10,8 +10,8 @@ use crate::station::Station;
 use crate::ticket::Ticket;
 use crate::trail::{MessagePass, MessageQueue};
 use crate::turn::Turn;
-use rs_key::{NoMemory, Rows};
 use rs_mailcore::{Fsm, Named};
+use rs_rows::{NoMemory, Rows};
 use std::alloc::Global;
 use std::sync::Wait;
 
@@ -23,7 +23,7 @@ use std::sync::Wait;
 /// mailbox is dropped, its machine and the messages in its queue are dropped. That a notified machine runs, or that a
 /// queued message is ever taken, no clause says.
 pub struct Mailbox<F: Fsm> {
-    pub(crate) handover: Handover<Carriage<F>>,
+    pub(crate) handover: Handover<Contents<F>>,
     pub(crate) queue: MessageQueue<F::Message>,
     pub(crate) address: u32,
     ghost same: { (handover.table.shared.key.reader.pass.web ≡ queue.web) × (handover.table.shared.key.reader.pass.heap ≡ queue.heap) },
@@ -47,7 +47,7 @@ impl<F: Fsm> Drop for Mailbox<F> {
 }
 
 // A station of a hand and a pass that have done nothing.
-fn station_of<F: Fsm>(hand: Hand<Carriage<F>>, sender: MessagePass<F::Message>) -> Station<F>
+fn station_of<F: Fsm>(hand: Hand<Contents<F>>, sender: MessagePass<F::Message>) -> Station<F>
     requires hand { hand.seat.me.0.stance.announced ≡ 0 }
     requires sender { length sender.me.view.client.sent ≡ 0 }
     ensures { (result.hand ≡ hand) × (result.sender ≡ sender) }
@@ -73,19 +73,19 @@ impl<F: Fsm> Mailbox<F> {
     ) -> Result<
         (
             Mailbox<F>,
-            Rows<Hand<Carriage<F>>>,
+            Rows<Hand<Contents<F>>>,
             Vec<MessagePass<F::Message>>,
         ),
         NoMemory,
     >
         requires stations { (1 ≤ stations) × (stations ≤ 4096) }
         ensures name { IfOk result (λ r. (mailbox_name F.name r.0 ≡ F.name machine) × (r.0.handover.table.shared.key.reader.pass.me.view.client.name ≡ Some (F.name machine)) × (r.0.address ≡ address)) }
-        ensures hands { IfOk result (λ r. (length r.1 ≡ stations) × All (IsFresh ⟦<Carriage<F> as Named>⟧.name r.0.handover) r.1) }
+        ensures hands { IfOk result (λ r. (length r.1 ≡ stations) × All (IsFresh ⟦<Contents<F> as Named>⟧.name r.0.handover) r.1) }
         ensures senders { IfOk result (λ r. (length r.2.items ≡ stations) × All (IsSender r.0.queue (F.name machine)) r.2.items) }
     {
         let (queue, reader, senders) = open_queue(alloc, &machine, stations)?;
         let reader = Reader { pass: reader };
-        match Handover::new(alloc, Carriage { machine, reader }, stations) {
+        match Handover::new(alloc, Contents { machine, reader }, stations) {
             Ok((handover, hands)) => Ok((
                 Mailbox {
                     handover,
@@ -102,7 +102,7 @@ impl<F: Fsm> Mailbox<F> {
         }
     }
 
-    /// An idle mailbox of this address with the machine home, and so many calm stations that have done nothing. The
+    /// Makes an idle mailbox of this address with the machine home, and calm stations that have done nothing. The
     /// machine's name becomes the mailbox's.
     pub fn new(
         alloc: Global,
@@ -217,8 +217,8 @@ impl<F: Fsm> Mailbox<F> {
         ensures name { IfSome result (λ x. F.Message.name x ≡ mailbox_name F.name self.now) }
         ensures order { MatchOption result (Held 0 (StandsAt F.Message.name (reader_of turn.old))) (λ x. (rest : List F.Message) × StandsAt F.Message.name (reader_of turn.old) (x ∷ rest)) }
     {
-        let message = pop_message(rt, &self.queue, &mut turn.held.lodging.value.reader.pass)?;
-        turn.held.lodging.handled += 1;
+        let message = pop_message(rt, &self.queue, &mut turn.held.stored.value.reader.pass)?;
+        turn.held.stored.handled += 1;
         Some(message)
     }
 
@@ -238,8 +238,8 @@ impl<F: Fsm> Mailbox<F> {
         match self.handover.release(&mut station.hand, held) {
             Back::Idle => Released::Idle,
             Back::Again(held) => Released::Again(Turn { held }),
-            Back::Dropped(carriage) => {
-                let Carriage { machine, reader: _ } = carriage;
+            Back::Dropped(contents) => {
+                let Contents { machine, reader: _ } = contents;
                 Released::Dropped(machine)
             }
         }
@@ -260,8 +260,8 @@ impl<F: Fsm> Mailbox<F> {
             Ok(()) => Ok(Ticket {
                 address: self.address,
             }),
-            Err(carriage) => {
-                let Carriage { machine, reader: _ } = carriage;
+            Err(contents) => {
+                let Contents { machine, reader: _ } = contents;
                 Err(Dropped { machine })
             }
         }
@@ -278,8 +278,8 @@ impl<F: Fsm> Mailbox<F> {
         ensures sender { station.new.sender ≡ station.old.sender }
     {
         match self.handover.close(&mut station.hand) {
-            Shut::Value(carriage) => {
-                let Carriage { machine, reader: _ } = carriage;
+            Shut::Value(contents) => {
+                let Contents { machine, reader: _ } = contents;
                 Closed::Machine(machine)
             }
             Shut::Elsewhere => Closed::Elsewhere,

@@ -1,14 +1,18 @@
 use crate::turn::Turn;
 use rs_mailcore::Fsm;
+use thiserror::Error;
 
 /// Why a message was not sent. Nothing was pushed, and the message is handed back.
-#[derive(Debug, Drop)]
+#[derive(Debug, Drop, Error)]
 pub enum SendError<M> {
     /// The mailbox is closed.
+    #[error("the mailbox is closed")]
     Closed(M),
     /// Memory ran out.
+    #[error("out of memory")]
     NoMemory(M),
     /// The station has announced 2^50 messages.
+    #[error("the station has announced all the messages that it may")]
     Spent(M),
 }
 

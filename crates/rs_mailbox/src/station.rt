@@ -1,6 +1,6 @@
 ghost use Rattle.std.specs.Prelude.{◌≡◌, length};
 
-use crate::carriage::Carriage;
+use crate::contents::Contents;
 use crate::hand::Hand;
 use crate::trail::MessagePass;
 use rs_mailcore::Fsm;
@@ -9,7 +9,7 @@ use rs_mailcore::Fsm;
 /// announced all that it has pushed, and is calm, unless it has a turn that isn't spent.
 #[derive(Drop)]
 pub struct Station<F: Fsm> {
-    pub(crate) hand: Hand<Carriage<F>>,
+    pub(crate) hand: Hand<Contents<F>>,
     pub(crate) sender: MessagePass<F::Message>,
     pub(crate) announced: u64,
     ghost counted: { hand.seat.me.0.stance.announced ≡ announced },

@@ -1,7 +1,7 @@
 ghost use Rattle.std.specs.Prelude.{◌≡◌};
 ghost use Rattle.std.specs.Borrow.{sem};
 
-use crate::carriage::Carriage;
+use crate::contents::Contents;
 use crate::held::Held;
 use rs_mailcore::Fsm;
 
@@ -9,7 +9,7 @@ use rs_mailcore::Fsm;
 /// Where it is dropped, its station keeps holding for good.
 #[derive(Drop)]
 pub struct Turn<F: Fsm> {
-    pub(crate) held: Held<Carriage<F>>,
+    pub(crate) held: Held<Contents<F>>,
 }
 
 impl<F: Fsm> Turn<F> {
@@ -17,7 +17,7 @@ impl<F: Fsm> Turn<F> {
 
     /// How many messages of the mailbox were taken.
     pub fn handled(&self) -> u64
-        ensures { result ≡ self.now.held.lodging.handled }
+        ensures { result ≡ self.now.held.stored.handled }
     {
         self.held.handled()
     }
@@ -25,11 +25,11 @@ impl<F: Fsm> Turn<F> {
     /// Lends the machine. All else of the turn stays.
     pub fn machine(&mut self) -> &mut F
         ensures* writes_back { sem 𝓛 (LendsMachine F.row F.Message.row F.Name.row F.Message.Named self.entry result) }
-        ensures value { result.now ≡ self.old.held.lodging.value.machine }
+        ensures value { result.now ≡ self.old.held.stored.value.machine }
     {
         let held = &mut self.held;
-        let lodging = &mut held.lodging;
-        let carriage = &mut lodging.value;
-        &mut carriage.machine
+        let stored = &mut held.stored;
+        let contents = &mut stored.value;
+        &mut contents.machine
     }
 }

@@ -4,8 +4,8 @@ use mathlib.Core.Logic.{dite}
 use mathlib.Core.Option.{some, some-injective, some-ne-none}
 use native.Mathlib.Decide.{ℕ_discrete}
 use lib.ListN.{get_elem?}
-use Rattle.rs_mailcore.specs.declared.stances.Stance.{Stance}
-use Rattle.rs_mailcore.specs.declared.stances.Thread.{Thread}
+use Rattle.rs_mailcore.specs.declared.thread.Stance.{Stance}
+use Rattle.rs_mailcore.specs.declared.thread.Thread.{Thread}
 use Rattle.rs_mailcore.specs.Words.{IsWatching, announcements}
 use Rattle.rs_mailcore.specs.Moment.{Moment}
 use Rattle.rs_mailcore.specs.Lawful.{IsLawful, pushes, stance_of}

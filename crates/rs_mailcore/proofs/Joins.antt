@@ -2,8 +2,8 @@
 use Rattle.std.proofs.Common.{◌≡◌, ℕ, zero, suc, ◌+◌, ◌^◌, ◌≤◌, ◌⊎◌, List, [], ◌∷◌, ◌++◌, sym, ap, ◌∙◌, subst, inl, inr, ⊎_elim, arith}
 use mathlib.Core.Option.{Option, some, some-injective, some-ne-none}
 use lib.ListN.{get_elem?}
-use Rattle.rs_mailcore.specs.declared.stances.Phase.TheVariants.{Calm}
-use Rattle.rs_mailcore.specs.declared.stances.Stance.{Stance}
+use Rattle.rs_mailcore.specs.declared.thread.Phase.TheVariants.{Calm}
+use Rattle.rs_mailcore.specs.declared.thread.Stance.{Stance}
 use Rattle.rs_mailcore.specs.Words.{IsHolding, IsReleasing, stance, announcements}
 use Rattle.rs_mailcore.specs.Tidy.{Holds, IsTidy}
 

@@ -3,15 +3,15 @@ use Rattle.std.proofs.Common.{◌≡◌, ◌≢◌, ℕ, zero, suc, ◌+◌, ◌
 use Rattle.std.proofs.lemmas.Bool.{false≢true}
 use mathlib.Core.Option.{some, some-injective, some-ne-none}
 use lib.ListN.{get_elem?}
-use Rattle.rs_mailcore.specs.declared.stances.Phase.{Phase}
-use Rattle.rs_mailcore.specs.declared.stances.Phase.TheVariants.{Calm, Notifying, Holding, Releasing}
-use Rattle.rs_mailcore.specs.declared.stances.Stance.{Stance}
-use Rattle.rs_mailcore.specs.declared.letters.Place.{Place}
-use Rattle.rs_mailcore.specs.declared.letters.Place.TheVariants.{Home, With, Given}
-use Rattle.rs_mailcore.specs.declared.letters.Letter.{Letter}
-use Rattle.rs_mailcore.specs.declared.stances.Thread.{Thread}
-use Rattle.rs_mailcore.specs.declared.moves.Step.{Step}
-use Rattle.rs_mailcore.specs.declared.moves.Step.TheVariants.{Announce, Notify, Take, Release, Recheck, Retake, Close, Look, Reschedule, Push, Pop}
+use Rattle.rs_mailcore.specs.declared.thread.Phase.{Phase}
+use Rattle.rs_mailcore.specs.declared.thread.Phase.TheVariants.{Calm, Notifying, Holding, Releasing}
+use Rattle.rs_mailcore.specs.declared.thread.Stance.{Stance}
+use Rattle.rs_mailcore.specs.declared.letter.Place.{Place}
+use Rattle.rs_mailcore.specs.declared.letter.Place.TheVariants.{Home, With, Given}
+use Rattle.rs_mailcore.specs.declared.letter.Letter.{Letter}
+use Rattle.rs_mailcore.specs.declared.thread.Thread.{Thread}
+use Rattle.rs_mailcore.specs.declared.step.Step.{Step}
+use Rattle.rs_mailcore.specs.declared.step.Step.TheVariants.{Announce, Notify, Take, Release, Recheck, Retake, Close, Look, Reschedule, Push, Pop}
 use Rattle.rs_mailcore.specs.Words.{stance, announcements}
 use Rattle.rs_mailcore.specs.Moment.{Moment, pick, restanced, raise_taken, popped, goes, hands_out, after, Enabled}
 use Rattle.rs_mailcore.specs.Lawful.{IsLawful, InSenderOrder, numbers, counting, pushes, stance_of}

@@ -2,7 +2,7 @@
 use Rattle.std.proofs.Common.{◌≡◌, ℕ, zero, suc, ◌+◌, ◌≢◌, ◌⊎◌, List, [], ◌∷◌, set, sym, refl, ap, inl, inr, ⊎_elim, arith}
 use mathlib.Core.Option.{some, some-injective, some-ne-none}
 use lib.ListN.{get_elem?}
-use Rattle.rs_mailcore.specs.declared.stances.Stance.{Stance}
+use Rattle.rs_mailcore.specs.declared.thread.Stance.{Stance}
 use Rattle.rs_mailcore.specs.Words.{announcements}
 
 module _ {A : Type 0} where

@@ -2,11 +2,11 @@
 use Rattle.std.proofs.Common.{◌≡◌, ℕ, zero, suc, ◌+◌, ◌^◌, ◌≤◌, ◌⊎◌, List, [], map, length, replicate, sym, refl, subst, inl, inr, arith}
 use mathlib.Core.Option.{some, some-injective, some-ne-none}
 use lib.ListN.{get_elem?}
-use Rattle.rs_mailcore.specs.declared.stances.Phase.TheVariants.{Calm}
-use Rattle.rs_mailcore.specs.declared.stances.Stance.{Stance}
-use Rattle.rs_mailcore.specs.declared.stances.Thread.{Thread}
-use Rattle.rs_mailcore.specs.declared.letters.Letter.{Letter}
-use Rattle.rs_mailcore.specs.declared.letters.Place.TheVariants.{Home}
+use Rattle.rs_mailcore.specs.declared.thread.Phase.TheVariants.{Calm}
+use Rattle.rs_mailcore.specs.declared.thread.Stance.{Stance}
+use Rattle.rs_mailcore.specs.declared.thread.Thread.{Thread}
+use Rattle.rs_mailcore.specs.declared.letter.Letter.{Letter}
+use Rattle.rs_mailcore.specs.declared.letter.Place.TheVariants.{Home}
 use Rattle.rs_mailcore.specs.Words.{IsHolding, IsReleasing, stance, announcements}
 use Rattle.rs_mailcore.specs.Tidy.{Holds, IsTidy}
 use Rattle.rs_mailcore.specs.Lawful.{pushes, stance_of}

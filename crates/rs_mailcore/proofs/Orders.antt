@@ -5,12 +5,12 @@ use mathlib.Core.Logic.{dite}
 use mathlib.Core.Option.{some, some-injective, some-ne-none}
 use native.Mathlib.Decide.{ℕ_discrete}
 use lib.ListN.{get_elem?}
-use Rattle.rs_mailcore.specs.declared.stances.Stance.{Stance}
-use Rattle.rs_mailcore.specs.declared.letters.Place.{Place}
-use Rattle.rs_mailcore.specs.declared.letters.Place.TheVariants.{Home, With, Given}
-use Rattle.rs_mailcore.specs.declared.letters.Letter.{Letter}
-use Rattle.rs_mailcore.specs.declared.stances.Thread.{Thread}
-use Rattle.rs_mailcore.specs.declared.moves.Step.TheVariants.{Push}
+use Rattle.rs_mailcore.specs.declared.thread.Stance.{Stance}
+use Rattle.rs_mailcore.specs.declared.letter.Place.{Place}
+use Rattle.rs_mailcore.specs.declared.letter.Place.TheVariants.{Home, With, Given}
+use Rattle.rs_mailcore.specs.declared.letter.Letter.{Letter}
+use Rattle.rs_mailcore.specs.declared.thread.Thread.{Thread}
+use Rattle.rs_mailcore.specs.declared.step.Step.TheVariants.{Push}
 use Rattle.rs_mailcore.specs.Words.{IsWatching, announcements}
 use Rattle.rs_mailcore.specs.Moment.{Moment, pick, raise_taken, after, popped}
 use Rattle.rs_mailcore.specs.Lawful.{stance_of, home_count, pushes, IsLawful, numbers, counting, InSenderOrder}

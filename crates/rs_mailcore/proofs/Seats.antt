@@ -1,13 +1,13 @@
 -- Where the machine of a desk is after each step.
 use Rattle.std.proofs.Common.{◌≡◌, ◌≢◌, ℕ, ◌==◌, Bool, true, false, leb, List, [], ◌∷◌, Option, Some, None, is_some, IsSome, sym, refl, ap, ◌∙◌, subst, eq-eqb, ne_eqb, arith}
 use mathlib.Core.Option as opt
-use Rattle.rs_mailcore.specs.declared.stances.Phase.TheVariants.{Calm, Holding, Releasing}
-use Rattle.rs_mailcore.specs.declared.stances.Thread.{Thread}
-use Rattle.rs_mailcore.specs.declared.letters.Place.{Place}
-use Rattle.rs_mailcore.specs.declared.letters.Place.TheVariants.{Home, With, Given}
-use Rattle.rs_mailcore.specs.declared.letters.Letter.{Letter}
-use Rattle.rs_mailcore.specs.declared.moves.Step.{Step}
-use Rattle.rs_mailcore.specs.declared.moves.Step.TheVariants.{Announce, Notify, Take, Release, Recheck, Retake, Close, Look, Reschedule, Push, Pop}
+use Rattle.rs_mailcore.specs.declared.thread.Phase.TheVariants.{Calm, Holding, Releasing}
+use Rattle.rs_mailcore.specs.declared.thread.Thread.{Thread}
+use Rattle.rs_mailcore.specs.declared.letter.Place.{Place}
+use Rattle.rs_mailcore.specs.declared.letter.Place.TheVariants.{Home, With, Given}
+use Rattle.rs_mailcore.specs.declared.letter.Letter.{Letter}
+use Rattle.rs_mailcore.specs.declared.step.Step.{Step}
+use Rattle.rs_mailcore.specs.declared.step.Step.TheVariants.{Announce, Notify, Take, Release, Recheck, Retake, Close, Look, Reschedule, Push, Pop}
 use Rattle.rs_mailcore.specs.Words.{IsResting, IsHolding}
 use Rattle.rs_mailcore.specs.Moment.{Moment, pick, given_from, popped, goes, hands_out, after}
 use Rattle.rs_mailcore.specs.Lawful.{home_count}

@@ -8,14 +8,14 @@ use native.Mathlib.Decide.{dec_le, ℕ_discrete}
 use Rattle.std.proofs.lemmas.Bool.Decides.{nat_tests}
 use lib.ListN.{get_elem?}
 use lib.Seq.{map-set}
-use Rattle.rs_mailcore.specs.declared.stances.Phase.{Phase}
-use Rattle.rs_mailcore.specs.declared.stances.Phase.TheVariants.{Calm, Notifying, Holding, Releasing}
-use Rattle.rs_mailcore.specs.declared.stances.Stance.{Stance}
-use Rattle.rs_mailcore.specs.declared.letters.Place.{Place}
-use Rattle.rs_mailcore.specs.declared.letters.Place.TheVariants.{Home, With, Given}
-use Rattle.rs_mailcore.specs.declared.letters.Letter.{Letter}
-use Rattle.rs_mailcore.specs.declared.stances.Thread.{Thread}
-use Rattle.rs_mailcore.specs.declared.moves.Step.TheVariants.{Announce, Notify, Take, Release, Recheck, Retake, Close, Look, Reschedule, Push, Pop}
+use Rattle.rs_mailcore.specs.declared.thread.Phase.{Phase}
+use Rattle.rs_mailcore.specs.declared.thread.Phase.TheVariants.{Calm, Notifying, Holding, Releasing}
+use Rattle.rs_mailcore.specs.declared.thread.Stance.{Stance}
+use Rattle.rs_mailcore.specs.declared.letter.Place.{Place}
+use Rattle.rs_mailcore.specs.declared.letter.Place.TheVariants.{Home, With, Given}
+use Rattle.rs_mailcore.specs.declared.letter.Letter.{Letter}
+use Rattle.rs_mailcore.specs.declared.thread.Thread.{Thread}
+use Rattle.rs_mailcore.specs.declared.step.Step.TheVariants.{Announce, Notify, Take, Release, Recheck, Retake, Close, Look, Reschedule, Push, Pop}
 use Rattle.rs_mailcore.specs.Words.{IsResting, IsHolding, IsReleasing, stance, announcements, notified, idle, dropped}
 use Rattle.rs_mailcore.specs.Tidy.{IsTidy}
 use Rattle.rs_mailcore.specs.Moment.{Moment, pick, restanced, raise_taken, given_from, popped, goes, after, Enabled}

@@ -3,11 +3,11 @@ use Rattle.std.specs.Prelude.{◌≡◌, ◌≢◌, ◌+◌, ◌<◌, ◌⊎◌,
 use mathlib.Core.Option.{some}
 use lib.ListN.{get_elem?}
 use Rattle.rs_mailcore.specs.Words.{IsWatching, stance}
-use Rattle.rs_mailcore.specs.declared.stances.Phase.TheVariants.{Calm}
-use Rattle.rs_mailcore.specs.declared.letters.Place.TheVariants.{Home}
-use Rattle.rs_mailcore.specs.declared.moves.Step.{Step}
-use Rattle.rs_mailcore.specs.declared.moves.Step.TheVariants.{Announce, Notify, Take, Release, Recheck, Retake, Close, Look, Reschedule, Push, Pop}
-use Rattle.rs_mailcore.specs.declared.stances.Thread.{Thread}
+use Rattle.rs_mailcore.specs.declared.thread.Phase.TheVariants.{Calm}
+use Rattle.rs_mailcore.specs.declared.letter.Place.TheVariants.{Home}
+use Rattle.rs_mailcore.specs.declared.step.Step.{Step}
+use Rattle.rs_mailcore.specs.declared.step.Step.TheVariants.{Announce, Notify, Take, Release, Recheck, Retake, Close, Look, Reschedule, Push, Pop}
+use Rattle.rs_mailcore.specs.declared.thread.Thread.{Thread}
 use Rattle.rs_mailcore.specs.Moment.{Moment, Enabled, after}
 use Rattle.rs_mailcore.specs.Lawful.{IsLawful, InSenderOrder}
 use Rattle.rs_mailcore.specs.declared.ledger.Ledger.{Ledger}
@@ -20,7 +20,7 @@ module _ {M : Type 0} where
   abbrev pub moment : Ledger M → Moment M
   moment c = record { word = c.word; announced = c.announced; place = c.place; handled = c.handled; queue = c.queue.items; threads = c.threads.items }
 
-  -- an idle mailbox of so many threads, with the machine home and nothing done
+  -- an idle mailbox of this number of threads, with the machine home and nothing done
   abbrev pub opening : ℕ → Moment M
   opening threads = record { word = 1; announced = 0; place = Home; handled = 0; queue = []; threads = replicate threads newcomer }
 

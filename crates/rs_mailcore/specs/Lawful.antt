@@ -2,12 +2,12 @@
 use Rattle.std.specs.Prelude.{◌≡◌, ℕ, zero, suc, ◌+◌, ◌<◌, ◌≤◌, ◌⊎◌, ◌==◌, All, List, [], ◌∷◌, map, length}
 use mathlib.Core.Option as opt
 use lib.ListN.{get_elem?}
-use Rattle.rs_mailcore.specs.declared.stances.Stance.{Stance}
-use Rattle.rs_mailcore.specs.declared.stances.Phase.TheVariants.{Calm}
-use Rattle.rs_mailcore.specs.declared.letters.Place.{Place}
-use Rattle.rs_mailcore.specs.declared.letters.Place.TheVariants.{Home, With, Given}
-use Rattle.rs_mailcore.specs.declared.letters.Letter.{Letter}
-use Rattle.rs_mailcore.specs.declared.stances.Thread.{Thread}
+use Rattle.rs_mailcore.specs.declared.thread.Stance.{Stance}
+use Rattle.rs_mailcore.specs.declared.thread.Phase.TheVariants.{Calm}
+use Rattle.rs_mailcore.specs.declared.letter.Place.{Place}
+use Rattle.rs_mailcore.specs.declared.letter.Place.TheVariants.{Home, With, Given}
+use Rattle.rs_mailcore.specs.declared.letter.Letter.{Letter}
+use Rattle.rs_mailcore.specs.declared.thread.Thread.{Thread}
 use Rattle.rs_mailcore.specs.Words.{IsHolding}
 use Rattle.rs_mailcore.specs.Tidy.{IsTidy}
 use Rattle.rs_mailcore.specs.Moment.{Moment, pick}

@@ -2,7 +2,7 @@
 use Rattle.std.specs.Prelude.{◌≡◌, ◌≢◌, ℕ, ◌^◌, ◌<◌, ◌≤◌, List}
 use mathlib.Core.Option.{Option, some}
 use lib.ListN.{get_elem?}
-use Rattle.rs_mailcore.specs.declared.stances.Stance.{Stance}
+use Rattle.rs_mailcore.specs.declared.thread.Stance.{Stance}
 use Rattle.rs_mailcore.specs.Words.{IsResting, IsHolding, IsReleasing, IsWatching, announcements}
 
 -- thread i is the one that holds the machine

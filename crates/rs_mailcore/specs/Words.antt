@@ -1,8 +1,8 @@
 -- What the state word says, and which phases a thread may be in.
 use Rattle.std.specs.Prelude.{◌≡◌, ℕ, ◌+◌, ◌⊎◌, List, [], ◌∷◌}
-use Rattle.rs_mailcore.specs.declared.stances.Phase.{Phase}
-use Rattle.rs_mailcore.specs.declared.stances.Phase.TheVariants.{Calm, Notifying, Holding, Releasing}
-use Rattle.rs_mailcore.specs.declared.stances.Stance.{Stance}
+use Rattle.rs_mailcore.specs.declared.thread.Phase.{Phase}
+use Rattle.rs_mailcore.specs.declared.thread.Phase.TheVariants.{Calm, Notifying, Holding, Releasing}
+use Rattle.rs_mailcore.specs.declared.thread.Stance.{Stance}
 
 abbrev pub notified : ℕ
 notified = 0

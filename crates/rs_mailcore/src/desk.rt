@@ -1,16 +1,16 @@
 ghost use Rattle.std.specs.Prelude.{◌≡◌, ◌≢◌, ◌≤◌, ◌<◌, Some, None, is_some, MatchBool, MatchOption, MatchResult, IfOk, IfErr, IsTrue, ◌↔◌, []};
 ghost use mathlib.Core.Option.{some};
 ghost use lib.ListN.{get_elem?};
-ghost use Rattle.rs_mailcore.specs.declared.stances.Thread.{Thread};
-ghost use Rattle.rs_mailcore.specs.declared.moves.Step.TheVariants.{Announce, Notify, Take, Release, Recheck, Retake, Close, Look, Reschedule, Push, Pop};
+ghost use Rattle.rs_mailcore.specs.declared.thread.Thread.{Thread};
+ghost use Rattle.rs_mailcore.specs.declared.step.Step.TheVariants.{Announce, Notify, Take, Release, Recheck, Retake, Close, Look, Reschedule, Push, Pop};
 ghost use Rattle.rs_mailcore.specs.Keeping.{moment, opening, MayStep, Steps, IsAwake};
 ghost use Rattle.rs_mailcore.specs.Sitting.{is_home, Fronts, IsSeated};
 
 use crate::ledger::Ledger;
-use crate::letters::Letter;
-use crate::moves::Step;
+use crate::letter::Letter;
 use crate::named::Fsm;
-use rs_key::NoMemory;
+use crate::step::Step;
+use rs_rows::NoMemory;
 use std::alloc::Global;
 
 /// A mailbox for one thread: the machine, its messages, and the steps of its stations as plain calls. Stations are

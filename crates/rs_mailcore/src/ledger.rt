@@ -1,15 +1,15 @@
 ghost use Rattle.std.specs.Prelude.{◌≡◌, ◌≢◌, ℕ, ◌+◌, ◌<◌, ◌≤◌, [], ◌∷◌, MatchBool, MatchResult, MatchOption, IfErr, IfOk, IsTrue, ◌↔◌, leb, ◌==◌, length};
 ghost use mathlib.Core.Option.{some};
 ghost use lib.ListN.{get_elem?};
-ghost use Rattle.rs_mailcore.specs.declared.stances.Thread.{Thread};
-ghost use Rattle.rs_mailcore.specs.declared.moves.Step.TheVariants.{Announce, Notify, Take, Release, Recheck, Retake, Close, Look, Reschedule, Push, Pop};
+ghost use Rattle.rs_mailcore.specs.declared.thread.Thread.{Thread};
+ghost use Rattle.rs_mailcore.specs.declared.step.Step.TheVariants.{Announce, Notify, Take, Release, Recheck, Retake, Close, Look, Reschedule, Push, Pop};
 ghost use Rattle.rs_mailcore.specs.Moment as at;
 ghost use Rattle.rs_mailcore.specs.Keeping.{moment, opening, with_thread, IsSound, MayStep, Steps, IsAwake};
 
-use crate::letters::{Letter, Place};
-use crate::moves::Step;
-use crate::stances::{Phase, Stance, Thread};
-use rs_key::NoMemory;
+use crate::letter::{Letter, Place};
+use crate::step::Step;
+use crate::thread::{Phase, Stance, Thread};
+use rs_rows::NoMemory;
 use std::alloc::Global;
 use std::collections::VecDeque;
 

@@ -150,17 +150,6 @@ fn a_closed_desk_hands_its_machine_out(rt: HostRuntime) -> Result<(), Fail> {
     Ok(())
 }
 
-#[test]
-fn the_closing_station_gets_a_machine_that_is_home(rt: HostRuntime) -> Result<(), Fail> {
-    let Ok(mut desk) = Desk::new(rt.alloc(), Tally { total: 5 }, 2) else {
-        panic!(rt; "no memory")
-    };
-    assert!(rt; send(&rt, &mut desk, 0, 11));
-    assert!(rt; matches!(close(&rt, &mut desk, 1), (0, Some(Tally { total: 5 }))));
-    assert!(rt; matches!(take(&rt, &mut desk, 0), Err(2)));
-    Ok(())
-}
-
 // The word after each step of a core with two threads.
 #[test]
 fn a_core_makes_every_kind_of_step(rt: HostRuntime) -> Result<(), Fail> {
@@ -194,26 +183,5 @@ fn a_core_makes_every_kind_of_step(rt: HostRuntime) -> Result<(), Fail> {
     }
     assert!(rt; core.ledger.handled == 2);
     assert!(rt; matches!(core.ledger.place, Place::Given));
-    Ok(())
-}
-
-// What a thread may not do, though it is there.
-#[test]
-fn a_core_refuses_what_a_thread_may_not_do(rt: HostRuntime) -> Result<(), Fail> {
-    let Ok(core) = Core::new(rt.alloc(), 1) else {
-        panic!(rt; "no memory")
-    };
-    for step in [
-        Step::Announce,
-        Step::Notify,
-        Step::Release,
-        Step::Recheck,
-        Step::Retake,
-        Step::Reschedule,
-        Step::Pop,
-    ] {
-        assert!(rt; !core.may_step(0, &step));
-    }
-    assert!(rt; !core.may_step(1, &Step::Take));
     Ok(())
 }

@@ -6,17 +6,17 @@ use Rattle.rs_entry.specs.WellFormed.{WellFormed}
 use Rattle.rs_entry.specs.declared.input.Input.{Input}
 use Rattle.rs_entry.specs.declared.input.Store.{Store}
 use Rattle.rs_entry.specs.declared.outcome.Item.{Item}
-use Rattle.rs_order.specs.declared.regions.Made.{Made}
-use Rattle.rs_order.specs.Stores.{Applied, ids_of}
-use Rattle.rs_value.specs.Whole.{replies_of}
+use Rattle.rs_store.specs.declared.regions.Made.{Made}
+use Rattle.rs_store.specs.Stores.{Applied, ids_of}
+use Rattle.rs_part.specs.Whole.{replies_of}
 use Rattle.rs_check.specs.declared.rows.Row.{Row}
 use Rattle.rs_check.specs.Laws.{check}
 use Rattle.rs_check.specs.Plans.{address_in, row_of, rows_in, rows_of}
 use Rattle.rs_check.specs.Values.{region_of}
 use Rattle.rs_msg.specs.Held.{IsEnding}
 use Rattle.rs_msg.specs.declared.ending.Ending.{Ending}
-use Rattle.rs_outcome.specs.Outcomes.{lines_in, region_line, reply_line}
-use Rattle.rs_outcome.proofs.RepliesById.{lines_for}
+use Rattle.rs_history.specs.Outcomes.{lines_in, region_line, reply_line}
+use Rattle.rs_history.proofs.RepliesById.{lines_for}
 use Rattle.rs_meta.specs.Addresses.{first_of}
 use Rattle.rs_meta.specs.Readings.{AreEndings, items_left, items_of_all, line_of}
 use Rattle.rs_meta.proofs.EndingLaws.{items_are, items_shown, line_is, replies_is}

@@ -12,14 +12,14 @@ use Rattle.rs_entry.specs.declared.outcome.Reply.{Reply}
 use Rattle.rs_entry.specs.declared.outcome.ReplyLine.{ReplyLine}
 use Rattle.rs_region.specs.Verdicts.{verdict}
 use Rattle.rs_region.specs.declared.state.RegionState.{RegionState}
-use Rattle.rs_order.specs.declared.regions.Made.{Made}
-use Rattle.rs_order.specs.Stores.{Applied, Replied, is_unmerged, own, replied, reply_to}
-use Rattle.rs_value.specs.Items.{Items, items_in}
-use Rattle.rs_value.specs.Parts.{Part, part_of}
-use Rattle.rs_value.specs.Scripts.{IsPart}
-use Rattle.rs_value.specs.Whole.{Answers, replies_of}
-use Rattle.rs_value.proofs.Parts.{one_part}
-use Rattle.rs_map.specs.Maps.{Writes, items_at}
+use Rattle.rs_store.specs.declared.regions.Made.{Made}
+use Rattle.rs_store.specs.Stores.{Applied, Replied, is_unmerged, own, replied, reply_to}
+use Rattle.rs_part.specs.Items.{Items, items_in}
+use Rattle.rs_part.specs.Parts.{Part, part_of}
+use Rattle.rs_part.specs.Scripts.{IsPart}
+use Rattle.rs_part.specs.Whole.{Answers, replies_of}
+use Rattle.rs_part.proofs.Parts.{one_part}
+use Rattle.rs_msg.specs.Maps.{Writes, items_at}
 use Rattle.rs_check.specs.Laws.{check}
 use Rattle.rs_check.specs.Plans.{ends_of, own_in, own_of, stop_of}
 use Rattle.rs_check.specs.Scripts.{script_of}
@@ -28,7 +28,7 @@ use Rattle.rs_check.proofs.Addresses.{Home, ends, stops}
 use Rattle.rs_check.proofs.PartLaws.{is_part, the_entry, the_part}
 use Rattle.rs_msg.specs.Held.{IsEnding, leaves_map, state_in}
 use Rattle.rs_msg.specs.Held.{items_in as items_in_part}
-use Rattle.rs_outcome.specs.Outcomes.{left_of, region_line, reply_line}
+use Rattle.rs_history.specs.Outcomes.{left_of, region_line, reply_line}
 
 -- the line with these of its region
 abbrev line_with : Mode → ℕ → ℕ → RegionState → RegionLine

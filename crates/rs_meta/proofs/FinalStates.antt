@@ -7,9 +7,9 @@ use Rattle.rs_entry.specs.WellFormed.{WellFormed}
 use Rattle.rs_entry.specs.declared.input.Input.{Input}
 use Rattle.rs_entry.specs.declared.input.Store.{Store}
 use Rattle.rs_region.specs.declared.state.RegionState.{RegionState}
-use Rattle.rs_order.specs.declared.regions.Made.{Made}
-use Rattle.rs_order.specs.Stores.{ByRegion, ids_of}
-use Rattle.rs_value.specs.Parts.{Part}
+use Rattle.rs_store.specs.declared.regions.Made.{Made}
+use Rattle.rs_store.specs.Stores.{ByRegion, ids_of}
+use Rattle.rs_part.specs.Parts.{Part}
 use Rattle.rs_check.specs.declared.rows.Row.{Row}
 use Rattle.rs_check.specs.Laws.{check}
 use Rattle.rs_check.specs.Plans.{ends_of, row_of, rows_in, rows_of, stop_of}

@@ -6,7 +6,7 @@ use Rattle.std.proofs.lemmas.Bool.{and_from, and_parts, cases_eq, cases_lt, eqb-
 use Rattle.std.proofs.lemmas.List.Sums.{count_by-le-length}
 use Rattle.std.proofs.lemmas.Option.{slice_get_past, slice_get_within}
 use Rattle.rs_entry.specs.declared.input.Input.{Input}
-use Rattle.rs_order.specs.Stores.{first_some}
+use Rattle.rs_store.specs.Stores.{first_some}
 use Rattle.rs_msg.specs.declared.ending.Ending.{Ending}
 use Rattle.rs_meta.specs.Addresses.{count_on, first_of, is_on}
 use Rattle.rs_meta.specs.Held.{AreAllHeld, AreOwn, ending_in, held_in, held_with, is_free, is_free_at, is_free_slot, with_ending}

@@ -3,12 +3,12 @@ use Rattle.std.proofs.Common.{◌≡◌, ◌∙◌, sym, refl, ap, ℕ, List, []
 use Rattle.std.specs.List.{filter, flat_map}
 use Rattle.rs_entry.specs.declared.outcome.Item.{Item}
 use Rattle.rs_entry.specs.declared.outcome.KeyHistory.{KeyHistory}
-use Rattle.rs_order.specs.Stores.{Wrote}
-use Rattle.rs_value.specs.Items.{history_of, item_of, of_key}
-use Rattle.rs_value.proofs.Items.{history_append}
+use Rattle.rs_store.specs.Stores.{Wrote}
+use Rattle.rs_part.specs.Items.{history_of, item_of, of_key}
+use Rattle.rs_part.proofs.Items.{history_append}
 use Rattle.rs_msg.specs.declared.ending.Ending.{Ending}
-use Rattle.rs_outcome.specs.Histories.{histories_of, keys_of}
-use Rattle.rs_outcome.proofs.HistoryLaws.{has_keys, history_at, maps, rise_keys, some_in, unique}
+use Rattle.rs_history.specs.Histories.{histories_of, keys_of}
+use Rattle.rs_history.proofs.HistoryLaws.{has_keys, history_at, maps, rise_keys, some_in, unique}
 use Rattle.rs_meta.specs.Readings.{items_of_all, writes_left}
 
 some_mapped : (ws : List Wrote) → some_in (map item_of ws) ≡ some_in ws

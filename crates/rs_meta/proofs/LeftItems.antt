@@ -8,20 +8,20 @@ use Rattle.rs_entry.specs.declared.input.Input.{Input}
 use Rattle.rs_entry.specs.declared.input.Store.{Store}
 use Rattle.rs_entry.specs.declared.outcome.Mode.{Mode}
 use Rattle.rs_entry.specs.declared.outcome.Mode.TheVariants as mode
-use Rattle.rs_order.specs.declared.regions.Made.{Made}
-use Rattle.rs_order.specs.Stores.{Applied, ids_of, is_unmerged}
-use Rattle.rs_value.specs.Counting.{IsAmong}
-use Rattle.rs_value.specs.Held.{Held}
-use Rattle.rs_value.specs.Items.{history_of}
-use Rattle.rs_value.specs.Scripts.{Script}
-use Rattle.rs_value.specs.Whole.{Invariant}
-use Rattle.rs_value.proofs.Covers.{held_once}
-use Rattle.rs_value.proofs.Regions.{same_region}
+use Rattle.rs_store.specs.declared.regions.Made.{Made}
+use Rattle.rs_store.specs.Stores.{Applied, ids_of, is_unmerged}
+use Rattle.rs_part.specs.Counting.{IsAmong}
+use Rattle.rs_part.specs.Held.{Held}
+use Rattle.rs_part.specs.Items.{history_of}
+use Rattle.rs_part.specs.Scripts.{Script}
+use Rattle.rs_part.specs.Whole.{Invariant}
+use Rattle.rs_part.proofs.Covers.{held_once}
+use Rattle.rs_part.proofs.Regions.{same_region}
 use Rattle.rs_msg.specs.Held.{leaves_map}
 use Rattle.rs_msg.specs.declared.ending.Ending.{Ending}
-use Rattle.rs_outcome.specs.Outcomes.{is_removed, is_shown, removed_in, removed_range, shown}
-use Rattle.rs_outcome.proofs.Ascending.{Ascend, behind_first, ids_ascend, none_made, one_made}
-use Rattle.rs_outcome.proofs.ShownHistories.{hidden_history, shown_history}
+use Rattle.rs_history.specs.Outcomes.{is_removed, is_shown, removed_in, removed_range, shown}
+use Rattle.rs_history.proofs.Ascending.{Ascend, behind_first, ids_ascend, none_made, one_made}
+use Rattle.rs_history.proofs.ShownHistories.{hidden_history, shown_history}
 use Rattle.rs_meta.specs.Readings.{items_left, items_of_all}
 use Rattle.rs_meta.proofs.Alongside.{Along, Beside, Says, shown_of}
 use Rattle.rs_meta.proofs.EndingLaws.{leaves_unmerged}

@@ -7,19 +7,19 @@ use Rattle.rs_entry.specs.WellFormed.{WellFormed}
 use Rattle.rs_entry.specs.declared.input.Input.{Input}
 use Rattle.rs_entry.specs.declared.input.Store.{Store}
 use Rattle.rs_entry.specs.declared.outcome.StoreOutcome.{StoreOutcome}
-use Rattle.rs_order.specs.declared.regions.Made.{Made}
-use Rattle.rs_order.specs.Stores.{Applied, Wrote, ids_of}
-use Rattle.rs_value.specs.Items.{history_of}
-use Rattle.rs_value.specs.Whole.{Invariant, replies_of}
-use Rattle.rs_value.proofs.Members.{among_all}
+use Rattle.rs_store.specs.declared.regions.Made.{Made}
+use Rattle.rs_store.specs.Stores.{Applied, Wrote, ids_of}
+use Rattle.rs_part.specs.Items.{history_of}
+use Rattle.rs_part.specs.Whole.{Invariant, replies_of}
+use Rattle.rs_part.proofs.Members.{among_all}
 use Rattle.rs_check.specs.Laws.{check}
 use Rattle.rs_check.specs.Scripts.{script_of}
 use Rattle.rs_msg.specs.declared.ending.Ending.{Ending}
-use Rattle.rs_outcome.specs.Histories.{histories_of}
-use Rattle.rs_outcome.specs.Outcomes.{by_region, lines_in, outcome_by, outcome_with, removed_in, reply_line, shown, store_outcome}
-use Rattle.rs_outcome.proofs.Ascending.{ids_ascend}
-use Rattle.rs_outcome.proofs.RepliesById.{replies_by_id}
-use Rattle.rs_outcome.proofs.SameOutcomes.{outcome_made}
+use Rattle.rs_history.specs.Histories.{histories_of}
+use Rattle.rs_history.specs.Outcomes.{by_region, lines_in, outcome_by, outcome_with, removed_in, reply_line, shown, store_outcome}
+use Rattle.rs_history.proofs.Ascending.{ids_ascend}
+use Rattle.rs_history.proofs.RepliesById.{replies_by_id}
+use Rattle.rs_history.proofs.SameOutcomes.{outcome_made}
 use Rattle.rs_meta.specs.Readings.{AreEndings, IsReadOff, items_of_all, line_of, writes_left}
 use Rattle.rs_meta.proofs.Alongside.{Along, along, items_along, lines_along, replies_along}
 use Rattle.rs_meta.proofs.Histories.{histories_by_items, items_of_writes}

@@ -4,7 +4,7 @@ use Rattle.std.specs.List.{flat_map}
 use Rattle.std.proofs.lemmas.Grind.{flat_map-append}
 use Rattle.std.proofs.lemmas.List.{append-nil, append_assoc}
 use Rattle.rs_entry.specs.declared.outcome.ReplyLine.{ReplyLine}
-use Rattle.rs_map.specs.Maps.{Writes}
+use Rattle.rs_msg.specs.Maps.{Writes}
 use Rattle.rs_msg.specs.declared.ending.Ending.{Ending}
 use Rattle.rs_meta.specs.Readings.{writes_left}
 

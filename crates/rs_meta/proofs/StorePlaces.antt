@@ -12,8 +12,8 @@ use Rattle.rs_entry.specs.WellFormed.{Rising, WellFormed}
 use Rattle.rs_entry.specs.declared.input.Input.{Input}
 use Rattle.rs_entry.specs.declared.input.Store.{Store}
 use Rattle.rs_region.proofs.CutParts.{all_map}
-use Rattle.rs_order.specs.declared.regions.Made.{Made}
-use Rattle.rs_order.specs.Stores.{Broke, ByRegion, Stepped, Went, ids_of, last}
+use Rattle.rs_store.specs.declared.regions.Made.{Made}
+use Rattle.rs_store.specs.Stores.{Broke, ByRegion, Stepped, Went, ids_of, last}
 use Rattle.rs_check.specs.declared.rows.Row.{Row}
 use Rattle.rs_check.specs.Plans.{address_in, address_of, row_of, rows_at, rows_in, rows_of, store_rows}
 use Rattle.rs_meta.specs.Addresses.{count_on, first_of, rows_on}

@@ -6,10 +6,10 @@ use Rattle.std.proofs.lemmas.List.{length-append}
 use Rattle.rs_entry.specs.WellFormed.{WellFormed}
 use Rattle.rs_entry.specs.declared.input.Input.{Input}
 use Rattle.rs_entry.specs.declared.input.Store.{Store}
-use Rattle.rs_order.specs.declared.regions.Made.{Made}
-use Rattle.rs_order.specs.Runs.{forget}
-use Rattle.rs_order.specs.Stores.{ids_of}
-use Rattle.rs_value.proofs.Members.{among_get}
+use Rattle.rs_store.specs.declared.regions.Made.{Made}
+use Rattle.rs_store.specs.Runs.{forget}
+use Rattle.rs_store.specs.Stores.{ids_of}
+use Rattle.rs_part.proofs.Members.{among_get}
 use Rattle.rs_check.specs.Laws.{check}
 use Rattle.rs_check.specs.Plans.{address_in, row_of, rows_in, rows_of, store_rows}
 use Rattle.rs_check.specs.Values.{region_of}

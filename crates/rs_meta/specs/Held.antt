@@ -1,7 +1,7 @@
 -- The endings that a control machine holds, each in the slot of its address.
 use Rattle.std.specs.Prelude.{◌≡◌, ℕ, ◌+◌, ◌-◌, ◌==◌, ◌&&◌, leb, Bool, true, false, List, Option, Some, None, IsSome, if◌then◌else◌, slice_get, slice_set}
 use Rattle.rs_entry.specs.declared.input.Input.{Input}
-use Rattle.rs_order.specs.Stores.{first_some}
+use Rattle.rs_store.specs.Stores.{first_some}
 use Rattle.rs_msg.specs.declared.ending.Ending.{Ending}
 use Rattle.rs_meta.specs.Addresses.{is_on}
 

@@ -5,11 +5,11 @@ use Rattle.rs_entry.specs.declared.input.Input.{Input}
 use Rattle.rs_entry.specs.declared.outcome.RegionLine.{RegionLine}
 use Rattle.rs_entry.specs.declared.outcome.StoreOutcome.{StoreOutcome}
 use Rattle.rs_region.specs.declared.state.RegionState.{RegionState}
-use Rattle.rs_value.specs.Items.{Items}
-use Rattle.rs_map.specs.Maps.{Writes, items_at}
+use Rattle.rs_part.specs.Items.{Items}
+use Rattle.rs_msg.specs.Maps.{Writes, items_at}
 use Rattle.rs_check.specs.Plans.{ends_of, own_of, stop_of}
 use Rattle.rs_msg.specs.declared.ending.Ending.{Ending}
-use Rattle.rs_outcome.specs.Histories.{histories_of, pairs_of}
+use Rattle.rs_history.specs.Histories.{histories_of, pairs_of}
 use Rattle.rs_table.specs.Cuts.{is_on}
 use Rattle.rs_meta.specs.Addresses.{count_on, first_of}
 

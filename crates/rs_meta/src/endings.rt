@@ -3,7 +3,7 @@ ghost use Rattle.std.specs.List.{count_by, filter_map};
 ghost use Rattle.rs_meta.specs.Addresses.{count_on, first_of};
 ghost use Rattle.rs_meta.specs.Held.{is_free, is_free_at, with_ending, held_with, AreAllHeld, AreOwn};
 
-use crate::counting::{count_on, first_of};
+use crate::store_addresses::{count_on, first_of};
 use rs_check::Plan;
 use rs_key::NoMemory;
 use rs_msg::Ending;
@@ -85,7 +85,7 @@ impl<'p> Endings<'p> {
     }
 }
 
-/// So many slots without an ending.
+/// Makes `count` slots without an ending.
 fn free_slots<'p>(alloc: Global, count: usize) -> Result<Vec<Option<Ending<'p>>>, NoMemory>
     ensures counted { IfOk result (λ slots. length slots.items ≡ count) }
     ensures free { IfOk result (λ slots. count_by is_free slots.items ≡ count) }

@@ -4,11 +4,9 @@
 //! the store's outcome. docs/BATCH.md tells who sends what when.
 #![tactic(auto)]
 
-mod counting;
 mod endings;
 mod machine;
 mod reading;
-#[cfg(test)]
-mod tests;
+mod store_addresses;
 
 pub use machine::StoreFsm;

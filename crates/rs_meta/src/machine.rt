@@ -8,7 +8,7 @@ ghost use Rattle.rs_table.specs.Rows.{IsTable};
 ghost use Rattle.rs_table.specs.Tellings.{nothing};
 ghost use Rattle.rs_table.specs.Views.{cut_of, place_of, rows_of, told_of};
 ghost use Rattle.rs_msg.specs.Names.{name_of_store};
-ghost use Rattle.rs_outcome.specs.Outcomes.{store_outcome};
+ghost use Rattle.rs_history.specs.Outcomes.{store_outcome};
 ghost use Rattle.rs_meta.specs.Machines.{IsComplete, held_after, held_by, is_news, told_after};
 
 use crate::endings::Endings;
@@ -63,8 +63,8 @@ impl<'p> StoreFsm<'p> {
         self.place
     }
 
-    /// Tells the machine a message of its plan. Of an address of its store it holds the first ending that comes, and it takes
-    /// to know each reshaping of its store that the plan has: in any order, and as often as may be.
+    /// Tells the machine a message of its plan. Of an address of its store it holds the first ending that comes, and it
+    /// records each reshaping of its store that the plan has. Calls may come in any order and may repeat.
     ///
     /// After NoMemory the table is that of a cut of what was told, this message's reshaping too, which contains the cut
     /// before; every later call answers NoMemory and changes nothing.

@@ -3,23 +3,21 @@
 ghost use Rattle.std.specs.Prelude.{◌≡◌, ◌<◌, ◌++◌, [], All, map, length, slice_get, unwrap_or, IfOk, OnOk, Some};
 ghost use Rattle.std.specs.List.{flat_map};
 ghost use Rattle.std.specs.Option.{option_map};
-ghost use Rattle.rs_outcome.specs.Outcomes.{store_outcome};
+ghost use Rattle.rs_history.specs.Outcomes.{store_outcome};
 ghost use Rattle.rs_check.specs.Plans.{ends_of};
 ghost use Rattle.rs_table.specs.Cuts.{IsFull};
 ghost use Rattle.rs_table.specs.Rows.{with_mode};
 ghost use Rattle.rs_table.specs.Views.{cut_of, input_of, place_of};
 ghost use Rattle.rs_meta.specs.Readings.{AreEndings, IsEndingOn, line_of, writes_left};
 
-use crate::counting::id_of;
+use crate::store_addresses::id_of;
 use rs_check::Plan;
 use rs_entry::{RegionLine, ReplyLine, StoreOutcome};
+use rs_history::{Writes, pairs_of};
 use rs_key::{NoMemory, Rows, TryClone};
-use rs_map::Map;
-use rs_msg::Ending;
-use rs_outcome::pairs_of;
+use rs_msg::{Ending, Map};
 use rs_region::RegionState;
 use rs_table::StoreTable;
-use rs_writes::Writes;
 use std::alloc::Global;
 
 /// What endings say beside their lines: all replies and the writes of their maps.

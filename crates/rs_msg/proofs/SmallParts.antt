@@ -4,9 +4,9 @@ use Rattle.std.specs.Prelude.{◌≡◌, ℕ, Bool, true, false, List, [], ◌�
 use Rattle.rs_key.specs.Ranges.{Bounds, holds}
 use Rattle.rs_entry.specs.declared.outcome.Item.{Item}
 use Rattle.rs_entry.specs.declared.outcome.Reply.TheVariants as reply
-use Rattle.rs_value.specs.Items.{no_items, items_in}
-use Rattle.rs_value.specs.Parts.{at}
-use Rattle.rs_map.specs.Maps.{Writes, HasItems, items_at}
+use Rattle.rs_part.specs.Items.{no_items, items_in}
+use Rattle.rs_part.specs.Parts.{at}
+use Rattle.rs_msg.specs.Maps.{Writes, HasItems, items_at}
 use Rattle.rs_check.specs.Plans.{rows_of, store_rows}
 use Rattle.rs_check.specs.Values.{count_of, part_on, replies_to}
 use Rattle.rs_msg.specs.Held.{IsHeld, IsEnding}

@@ -7,8 +7,8 @@ use Rattle.rs_entry.specs.declared.outcome.Mode.{Mode}
 use Rattle.rs_entry.specs.declared.outcome.Mode.TheVariants as mode
 use Rattle.rs_entry.specs.declared.outcome.ReplyLine.{ReplyLine}
 use Rattle.rs_region.specs.declared.state.RegionState.{RegionState}
-use Rattle.rs_value.specs.Parts.{Part}
-use Rattle.rs_map.specs.Maps.{Writes, items_at}
+use Rattle.rs_part.specs.Parts.{Part}
+use Rattle.rs_msg.specs.Maps.{Writes, items_at}
 use Rattle.rs_check.specs.Plans.{stop_of, ends_of}
 use Rattle.rs_check.specs.Values.{part_at, replies_to}
 

@@ -3,8 +3,8 @@ ghost use Rattle.rs_entry.specs.declared.outcome.Mode.TheVariants as mode;
 ghost use Rattle.rs_check.specs.Values.{count_of};
 ghost use Rattle.rs_msg.specs.Held.{IsHeld};
 
+use crate::map::Map;
 use rs_check::Plan;
-use rs_map::Map;
 use rs_region::RegionState;
 
 /// A source that is merged away, as it is after its prepare: what it hands over to its target.
@@ -22,7 +22,7 @@ pub struct Closed<'p> {
 }
 
 impl<'p> Closed<'p> {
-    /// It takes no memory.
+    /// Makes the value from its parts. It takes no memory.
     pub fn new(
         plan: &'p Plan,
         address: u32,
@@ -57,14 +57,14 @@ impl<'p> Closed<'p> {
         self.address
     }
 
-    /// The id of the region, on the same store, that takes it over.
+    /// Returns the id of the region, on the same store, that takes it over.
     pub fn target(&self) -> u64
         ensures { result ≡ self.now.target }
     {
         self.target
     }
 
-    /// The index of its prepare.
+    /// Returns the index of its prepare.
     pub fn commit(&self) -> u64
         ensures { result ≡ self.now.commit }
     {
@@ -83,7 +83,7 @@ impl<'p> Closed<'p> {
         &self.map
     }
 
-    /// The state and the map, moved out.
+    /// Returns the state and the map, and consumes the value.
     pub fn take(self) -> (RegionState, Map<'p>)
         ensures state { result.0 ≡ self.entry.state }
         ensures map { result.1 ≡ self.entry.map }

@@ -3,10 +3,10 @@ ghost use Rattle.std.specs.Option.{option_copied};
 ghost use Rattle.rs_check.specs.Values.{count_of};
 ghost use Rattle.rs_msg.specs.Held.{IsEnding};
 
+use crate::map::Map;
 use rs_check::Plan;
 use rs_entry::ReplyLine;
 use rs_key::Rows;
-use rs_map::Map;
 use rs_region::RegionState;
 
 /// What a region leaves at its stop: its state, all its replies and, unless it ends merged or removed, its map.
@@ -22,7 +22,7 @@ pub struct Ending<'p> {
 }
 
 impl<'p> Ending<'p> {
-    /// It takes no memory.
+    /// Makes the value from its parts. It takes no memory.
     pub fn new(
         plan: &'p Plan,
         address: u32,
@@ -53,7 +53,7 @@ impl<'p> Ending<'p> {
         self.address
     }
 
-    /// The state after the last entry; of a removed region without the mark that it was removed.
+    /// Returns the state after the last entry; of a removed region without the mark that it was removed.
     pub fn state(&self) -> &RegionState
         ensures { result.now ≡ self.now.state }
     {
@@ -72,7 +72,7 @@ impl<'p> Ending<'p> {
         self.map.as_ref()
     }
 
-    /// The state, the replies and the map, moved out.
+    /// Returns the state, the replies and the map, and consumes the value.
     pub fn take(self) -> (RegionState, Rows<ReplyLine>, Option<Map<'p>>)
         ensures state { result.0 ≡ self.entry.state }
         ensures replies { result.1 ≡ self.entry.replies }

@@ -19,12 +19,12 @@ pub enum PeerMsg<'p> {
         target: u64,
         commit: u64,
     },
-    /// Its apply machine has applied the entries up to this index.
+    /// Its apply machine has applied the entries up to this index. Kept for TiKV's protocol.
     Applied {
         plan: &'p Plan,
         upto: u64,
     },
-    /// The target has taken the region over.
+    /// The target has taken the region over. Kept for TiKV's protocol.
     MergeResult {
         plan: &'p Plan,
         target: u64,
@@ -53,7 +53,7 @@ pub enum ApplyMsg<'p> {
     SourceDone {
         closed: Box<Closed<'p>>,
     },
-    /// Nothing.
+    /// Tells nothing. Kept for TiKV's protocol.
     Noop {
         plan: &'p Plan,
     },

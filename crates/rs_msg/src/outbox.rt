@@ -14,7 +14,7 @@ pub struct Outbox<'p> {
 }
 
 impl<'p> Outbox<'p> {
-    /// With nothing to send. It takes no memory.
+    /// Makes an outbox with nothing to send. It takes no memory.
     pub fn new(alloc: Global) -> Outbox<'p>
         ensures peers { result.peers ≡ [] }
         ensures applies { result.applies ≡ [] }

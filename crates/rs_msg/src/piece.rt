@@ -2,8 +2,8 @@ ghost use Rattle.std.specs.Prelude.{◌≡◌, ◌<◌};
 ghost use Rattle.rs_check.specs.Values.{count_of};
 ghost use Rattle.rs_msg.specs.Held.{IsHeld};
 
+use crate::map::Map;
 use rs_check::Plan;
-use rs_map::Map;
 use rs_region::RegionState;
 
 /// A region that was just made: its state and its map before its first entry.
@@ -18,7 +18,7 @@ pub struct Piece<'p> {
 }
 
 impl<'p> Piece<'p> {
-    /// It takes no memory.
+    /// Makes the value from its parts. It takes no memory.
     pub fn new(plan: &'p Plan, address: u32, state: RegionState, map: Map<'p>) -> Piece<'p>
         requires below { address < count_of plan.now }
         requires held { IsHeld plan.now address 5 state map }
@@ -53,7 +53,7 @@ impl<'p> Piece<'p> {
         &self.map
     }
 
-    /// The state and the map, moved out.
+    /// Returns the state and the map, and consumes the value.
     pub fn take(self) -> (RegionState, Map<'p>)
         ensures state { result.0 ≡ self.entry.state }
         ensures map { result.1 ≡ self.entry.map }

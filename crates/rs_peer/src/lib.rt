@@ -6,7 +6,5 @@
 #![tactic(auto)]
 
 mod machine;
-#[cfg(test)]
-mod tests;
 
 pub use machine::PeerFsm;

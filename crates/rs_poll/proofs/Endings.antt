@@ -3,7 +3,7 @@ use Rattle.std.proofs.Common.{◌≡◌, ℕ, ◌+◌, ◌-◌, ◌≤◌, ⊎_e
 use Rattle.std.proofs.lemmas.List.{append-nil}
 use Rattle.std.specs.Prelude.{MatchResult}
 use Rattle.std.specs.declared.result.Result.TheVariants.{Ok, Err}
-use Rattle.rs_key.specs.declared.no_memory.NoMemory.{NoMemory}
+use Rattle.rs_rows.specs.declared.no_memory.NoMemory.{NoMemory}
 use Rattle.rs_mailbox.specs.declared.view.Deed.{Deed}
 use Rattle.rs_poll.specs.Counts.{RoseBy}
 use Rattle.rs_poll.specs.declared.handler.More.{More}

@@ -5,7 +5,7 @@ use Rattle.std.proofs.lemmas.List.Elements.{filter-append}
 use Rattle.std.proofs.Math.ListN as listn
 use Rattle.std.specs.Prelude.{MatchResult, Result}
 use Rattle.std.specs.declared.result.Result.TheVariants.{Ok, Err}
-use Rattle.rs_key.specs.declared.no_memory.NoMemory.{NoMemory}
+use Rattle.rs_rows.specs.declared.no_memory.NoMemory.{NoMemory}
 use Rattle.rs_mailbox.specs.declared.view.Deed.{Deed}
 use Rattle.rs_mailbox.specs.declared.view.Kind.TheVariants.{Take, Release, Recheck, Retake, Close, Reschedule}
 use Rattle.rs_mailbox.specs.Steps.{deed}

@@ -13,10 +13,12 @@ MatchWorked (Turned a) T G N = T a
 MatchWorked (Gone a) T G N = G a
 MatchWorked Nothing T G N = N
 
+-- what holds where a visit was a turn
 abbrev pub OnTurned : Visited → Type 0 → Type 0
 OnTurned visited.Turned T = T
 OnTurned visited.Gone T = Unit {0}
 
+-- what holds of the ticket where the machine is to run again
 abbrev pub OnAgain : Given → (Ticket → Type 0) → Type 0
 OnAgain Home T = Unit {0}
 OnAgain (Again t) T = T t

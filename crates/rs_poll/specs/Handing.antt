@@ -5,7 +5,7 @@ use Rattle.rs_mailcore.specs.declared.named.Fsm as fsm
 use Rattle.rs_mailbox.specs.InOrder.{sends}
 use Rattle.rs_mailbox.specs.Mail.{looked, told}
 use Rattle.rs_mailbox.specs.Stations.{trail, view}
-use Rattle.rs_mailbox.specs.declared.carriage.Berth.{Berth}
+use Rattle.rs_mailbox.specs.declared.contents.ContentsName.{ContentsName}
 use Rattle.rs_mailbox.specs.declared.station.Station.{Station}
 use Rattle.rs_mailbox.specs.declared.trail.Trail.{Trail}
 use Rattle.rs_mailbox.specs.declared.view.View.{View}
@@ -13,7 +13,7 @@ use Rattle.rs_router.specs.Desks.{ChangesAt}
 
 -- what a station knows: its hand's steps, and what its pass pushed. Of names P and messages M
 abbrev pub Known : Type 0 → Type 0 → Type 0
-Known P M = View (Berth P M P) × Trail P M
+Known P M = View (ContentsName P M P) × Trail P M
 
 module _ {F M P : Type 0} {d : fsm.Ghosts F M P} {n : Ghosts F P} {k : Ghosts M P} where
   abbrev pub known : Station F M P d n k → Known P M

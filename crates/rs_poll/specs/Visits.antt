@@ -63,7 +63,7 @@ GivesBack more handled Home xs ys = Rests more handled xs ys
 GivesBack more handled (Again ticket) xs ys = RunsAgain more 3 handled xs ys
 GivesBack more handled Dropped xs ys = Drops more handled xs ys
 
--- so many messages were taken, at most `batch`, and the handler counted each. Of its count before and after
+-- this number of messages was taken, at most `batch`, and the handler counted each. Of its count before and after
 abbrev pub Handles : ℕ → ℕ → ℕ → ℕ → Type 0
 Handles batch from to messages = (messages ≤ batch) × RoseBy messages from to
 

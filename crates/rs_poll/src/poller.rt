@@ -14,9 +14,9 @@ use crate::worked::Worked;
 use crate::worker::Worker;
 use once_cell::race::{Note, OnceBox};
 use rs_base::Gate;
-use rs_key::NoMemory;
 use rs_mailcore::{Fsm, Named};
 use rs_router::{Desks, Router, Scheduler};
+use rs_rows::NoMemory;
 use std::sync::Wait;
 
 /// One worker, with its desks of a router.
@@ -82,8 +82,8 @@ impl<'r, F: Fsm, S: Scheduler, H: Handler<F, S>> Poller<'r, F, S, H> {
     /// advances once, gives the machine back, and sends what came out. The machine is rescheduled where it asked for
     /// more, or where its release found more messages announced than handled.
     ///
-    /// Where memory is refused with the machine at hand, or its ticket is refused, the mailbox is closed and the machine
-    /// dropped. After NoMemory the run is to end.
+    /// Where memory is refused while it has the machine, or its ticket is refused, the mailbox is closed and the
+    /// machine dropped. After NoMemory the run is to end.
     pub fn poll_once<R: Wait, G: Gate>(&mut self, rt: &R, gate: &G) -> Result<Worked, NoMemory>
         ensures router { self.new.router.now ≡ self.old.router.now }
         ensures numbers { (self.new.worker.number ≡ self.old.worker.number) × (self.new.worker.batch ≡ self.old.worker.batch) }

@@ -4,13 +4,13 @@ ghost use Rattle.rs_router.specs.Passes.{IsNewPass};
 
 mod counting;
 mod refusing;
-mod relaying;
+mod routing;
 mod turns;
 mod workers;
 
-use rs_key::{NoMemory, Rows};
 use rs_mailcore::{Fsm, Named};
 use rs_router::{Desks, QueueScheduler, RouteError, Router, Scheduler, SchedulerPass};
+use rs_rows::{NoMemory, Rows};
 use std::alloc::Global;
 use std::sync::Wait;
 
@@ -46,7 +46,7 @@ impl Fsm for Tally {
     ghost one_name = { ℕ_set };
 }
 
-/// So many machines that have handled nothing.
+/// Makes `count` machines that have handled nothing.
 pub fn machines(alloc: Global, count: u32) -> Result<Rows<Tally>, NoMemory>
     ensures { IfOk result (λ m. length m ≡ count) }
 {

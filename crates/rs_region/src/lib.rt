@@ -14,6 +14,3 @@ mod verdict;
 pub use laws::{cut_laws, epoch_laws, join_laws, peer_laws, split_laws};
 pub use state::RegionState;
 pub use verdict::Verdict;
-
-#[cfg(test)]
-mod tests;

@@ -2,7 +2,7 @@
 use Rattle.std.proofs.Common.{List, ap}
 use Rattle.rs_mailcore.specs.declared.named.Named.{Ghosts}
 use Rattle.rs_mailcore.specs.declared.named.Fsm as fsm
-use Rattle.rs_mailcore.specs.declared.stances.Stance.{Stance}
+use Rattle.rs_mailcore.specs.declared.thread.Stance.{Stance}
 use Rattle.rs_mailbox.specs.declared.mailbox.Mailbox.{Mailbox}
 use Rattle.rs_mailbox.specs.declared.station.Station.{Station}
 use Rattle.rs_mailbox.specs.Stations.{IsCalm, IsNewStation}

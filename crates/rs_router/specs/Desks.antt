@@ -45,6 +45,7 @@ module _ {F M P : Type 0} {d : fsm.Ghosts F M P} {n : Ghosts F P} {k : Ghosts M 
   abbrev pub AreNewDesks : (F → P) → List (Mailbox F M P k) → List (Station F M P d n k) → Type 0
   AreNewDesks name_of bs ss = Paired (IsNewStation name_of) bs ss
 
+  -- each of the stations is calm
   abbrev pub AllCalm : List (Station F M P d n k) → Type 0
   AllCalm ss = All (λ s. IsCalm s) ss
 

@@ -1,7 +1,7 @@
 -- What sending a message through a router leaves in the views of the station and in the list of the pass.
 use Rattle.std.specs.Prelude.{◌≡◌, ◌≢◌, ℕ, ◌^◌, ◌≤◌, ◌⊎◌, List, [], ◌∷◌, ◌++◌, Some, None, Result}
 use Rattle.std.specs.declared.result.Result.TheVariants.{Ok, Err}
-use Rattle.rs_mailcore.specs.declared.stances.Phase.TheVariants.{Calm}
+use Rattle.rs_mailcore.specs.declared.thread.Phase.TheVariants.{Calm}
 use Rattle.rs_mailbox.specs.declared.view.View.{View}
 use Rattle.rs_mailbox.specs.declared.view.Kind.TheVariants.{Take, Close}
 use Rattle.rs_mailbox.specs.declared.trail.Trail.{Trail}

@@ -12,8 +12,6 @@ mod route_error;
 mod router;
 mod router_opening;
 mod scheduler;
-#[cfg(test)]
-mod tests;
 
 pub use desks::Desks;
 pub use queue_rule::{Line, LinePass, Tickets};

@@ -3,7 +3,7 @@ ghost use Rattle.rs_router.specs.Passes.{IsMember, IsNewPass};
 
 use crate::queue_rule::{Bound, Founds, LinePass, Tickets};
 use crate::queue_scheduler::{QueueScheduler, SchedulerPass};
-use rs_key::{NoMemory, Rows};
+use rs_rows::{NoMemory, Rows};
 use std::alloc::Global;
 use std::marker::Brand;
 use std::thread::Parker;
@@ -25,7 +25,7 @@ fn open_bounded<J: Bound>(
     Ok((queue, list))
 }
 
-// A queue whose tickets have addresses below this number, and so many passes of it.
+// Makes a queue whose tickets have addresses below `addresses`, and `passes` passes of it.
 fn open(alloc: Global, passes: u32, addresses: u32) -> Result<(Tickets, Vec<LinePass>), NoMemory>
     ensures { IfOk result (λ r. (length r.1.items ≡ passes) × All (IsMember r.0 addresses) r.1.items) }
 {
@@ -63,8 +63,8 @@ fn rows_of(
 }
 
 impl QueueScheduler {
-    /// A scheduler with this number of addresses and no ticket, and so many passes of it, through which nothing was
-    /// pushed or popped yet.
+    /// Makes a scheduler with this number of addresses and no ticket, and `passes` passes of it, through which nothing
+    /// was pushed or popped yet.
     pub fn new(
         alloc: Global,
         passes: u32,

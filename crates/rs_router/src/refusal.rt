@@ -5,7 +5,7 @@ ghost use Rattle.rs_router.specs.Routes.{Abandons};
 use rs_mailbox::{Mailbox, Station, Taken, Ticket};
 use rs_mailcore::{Fsm, Named};
 
-/// What is done with a ticket that no scheduler takes: the mailbox is closed, its machine is dropped where it was home,
+/// Spends a ticket that no scheduler takes: the mailbox is closed, its machine is dropped where it was home,
 /// and then the ticket is spent by a take, which finds the mailbox closed.
 pub fn abandon<F: Fsm>(mailbox: &Mailbox<F>, station: &mut Station<F>, ticket: Ticket)
     requires station { IsStationOf F.name mailbox.now station.old }

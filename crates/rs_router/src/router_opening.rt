@@ -5,12 +5,12 @@ ghost use Rattle.rs_router.specs.Desks.{AllCalm, AllNamed, AreAddressed, AreDesk
 use crate::desks::Desks;
 use crate::router::Router;
 use crate::scheduler::Scheduler;
-use rs_key::{NoMemory, Rows};
 use rs_mailbox::{Mailbox, Station};
 use rs_mailcore::{Fsm, Named};
+use rs_rows::{NoMemory, Rows};
 use std::alloc::Global;
 
-// So many desks with no stations.
+// Makes `workers` desks with no stations.
 fn empty_desks<F: Fsm>(
     alloc: Global,
     mailboxes: &Vec<Mailbox<F>>,
@@ -68,7 +68,7 @@ fn deal<F: Fsm>(
     Ok(list)
 }
 
-// A mailbox for each machine, in their order, and so many desks.
+// Makes a mailbox for each machine, in their order, and `workers` desks.
 fn open_all<F: Fsm>(
     alloc: Global,
     machines: Rows<F>,

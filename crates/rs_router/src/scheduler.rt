@@ -3,9 +3,11 @@ ghost use Rattle.rs_router.specs.Lists.{SameBag, Adds, Rose};
 
 use rs_mailbox::Ticket;
 use std::sync::Wait;
+use thiserror::Error;
 
-/// Want of memory, with a ticket of the address that was given.
-#[derive(Debug, Drop)]
+/// Memory ran out. It carries a ticket of the address that was given.
+#[derive(Debug, Drop, Error)]
+#[error("out of memory: a ticket was refused")]
 pub struct Refused {
     pub ticket: Ticket,
 }

@@ -3,7 +3,7 @@ use Rattle.std.proofs.Common.{◌≡◌, ℕ, zero, suc, ◌+◌, ◌≤◌, ◌
 use Rattle.std.specs.Prelude.{leb, slice_get, Some}
 use Rattle.std.specs.List.{AllByRecursion, filter}
 use Rattle.std.proofs.lemmas.Bool.{cases_lt, le-leb, lt-leb}
-use Rattle.rs_value.proofs.Reshapings.{count_to}
+use Rattle.rs_part.proofs.Reshapings.{count_to}
 
 -- each is above the one before, the first above this
 abbrev pub Ascend : ℕ → List ℕ → Type 0

@@ -11,9 +11,9 @@ use Rattle.rs_region.specs.Verdicts.{verdict}
 use Rattle.rs_region.specs.declared.state.RegionState.{RegionState}
 use Rattle.rs_region.specs.declared.verdict.Verdict.{Verdict}
 use Rattle.rs_region.specs.declared.verdict.Verdict.TheVariants as verdicts
-use Rattle.rs_order.specs.Stores.{is_accept, is_reshaping}
-use Rattle.rs_value.specs.Parts.{Part}
-use Rattle.rs_value.specs.Scripts.{Found, accepted, after_by}
+use Rattle.rs_store.specs.Stores.{is_accept, is_reshaping}
+use Rattle.rs_part.specs.Parts.{Part}
+use Rattle.rs_part.specs.Scripts.{Found, accepted, after_by}
 use Rattle.rs_check.specs.Laws.{check}
 use Rattle.rs_check.specs.Lawfulness.{Accepted, PlanLaws}
 use Rattle.rs_check.specs.Plans.{reshapings_of, stop_of}

@@ -16,16 +16,16 @@ use Rattle.rs_region.specs.Reshapings.{new_ranges, split_new}
 use Rattle.rs_region.specs.Verdicts.{verdict}
 use Rattle.rs_region.specs.declared.state.RegionState.{RegionState}
 use Rattle.rs_region.specs.declared.verdict.Verdict.TheVariants as verdicts
-use Rattle.rs_order.specs.declared.regions.Origin.{Origin}
-use Rattle.rs_order.specs.declared.regions.Origin.TheVariants as origins
-use Rattle.rs_order.specs.Stores.{is_accept}
-use Rattle.rs_value.specs.Counting.{IsAmong}
-use Rattle.rs_value.specs.Parts.{Part}
-use Rattle.rs_value.specs.Scripts.{Birth, IsPart, Never, Opened, Script, SplitOff, begun, child_by, child_in, child_of, child_with, found}
-use Rattle.rs_value.proofs.Cutting.{all_normal}
-use Rattle.rs_value.proofs.Members.{among_all, among_find}
-use Rattle.rs_value.proofs.Origins.{last_origins, origin_of}
-use Rattle.rs_value.proofs.Parts.{one_part}
+use Rattle.rs_store.specs.declared.regions.Origin.{Origin}
+use Rattle.rs_store.specs.declared.regions.Origin.TheVariants as origins
+use Rattle.rs_store.specs.Stores.{is_accept}
+use Rattle.rs_part.specs.Counting.{IsAmong}
+use Rattle.rs_part.specs.Parts.{Part}
+use Rattle.rs_part.specs.Scripts.{Birth, IsPart, Never, Opened, Script, SplitOff, begun, child_by, child_in, child_of, child_with, found}
+use Rattle.rs_part.proofs.Cutting.{all_normal}
+use Rattle.rs_part.proofs.Members.{among_all, among_find}
+use Rattle.rs_part.proofs.Origins.{last_origins, origin_of}
+use Rattle.rs_part.proofs.Parts.{one_part}
 use Rattle.rs_check.specs.declared.plan.Maker.TheVariants as makers
 use Rattle.rs_check.specs.Laws.{check}
 use Rattle.rs_check.specs.Plans.{address_of, is_at, made_by, maker_in, maker_of, reshapings_in, reshapings_of, rows_of, split_off}

@@ -12,13 +12,13 @@ use Rattle.rs_entry.specs.declared.input.Input.{Input}
 use Rattle.rs_entry.specs.declared.input.Store.{Store}
 use Rattle.rs_region.specs.Reshapings.{boot}
 use Rattle.rs_region.specs.declared.state.RegionState.{RegionState}
-use Rattle.rs_order.specs.Stores.{is_live, is_unmerged}
-use Rattle.rs_value.specs.Counting.{IsAmong}
-use Rattle.rs_value.specs.Ranges.{EachId, StatesApart}
-use Rattle.rs_value.specs.Telling.{boot_states}
-use Rattle.rs_value.proofs.Cutting.{find_each}
-use Rattle.rs_value.proofs.Members.{among_all, among_find, among_get, among_map}
-use Rattle.rs_value.proofs.Modes.{live_unmerged}
+use Rattle.rs_store.specs.Stores.{is_live, is_unmerged}
+use Rattle.rs_part.specs.Counting.{IsAmong}
+use Rattle.rs_part.specs.Ranges.{EachId, StatesApart}
+use Rattle.rs_part.specs.Telling.{boot_states}
+use Rattle.rs_part.proofs.Cutting.{find_each}
+use Rattle.rs_part.proofs.Members.{among_all, among_find, among_get, among_map}
+use Rattle.rs_part.proofs.Modes.{live_unmerged}
 use Rattle.rs_check.specs.Laws.{check}
 use Rattle.rs_check.specs.Plans.{reshapings_of}
 use Rattle.rs_check.specs.Tables.{owner, owns}

@@ -11,7 +11,7 @@ use Rattle.rs_entry.specs.declared.entry.Change.{Change}
 use Rattle.rs_entry.specs.declared.entry.Entry.{Entry}
 use Rattle.rs_entry.specs.declared.input.Input.{Input}
 use Rattle.rs_entry.specs.declared.outcome.Mode.TheVariants as mode
-use Rattle.rs_order.specs.Stores.{is_removal_of}
+use Rattle.rs_store.specs.Stores.{is_removal_of}
 use Rattle.rs_check.specs.Laws.{check}
 use Rattle.rs_check.specs.Plans.{address_of, ends_of, reshapings_of}
 use Rattle.rs_check.specs.Values.{count_of, region_of, reshaped_by}

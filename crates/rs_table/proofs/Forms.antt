@@ -4,11 +4,11 @@ use Rattle.rs_entry.specs.WellFormed.{WellFormed}
 use Rattle.rs_entry.specs.declared.entry.Carried.{Carried}
 use Rattle.rs_entry.specs.declared.entry.Entry.{Entry}
 use Rattle.rs_entry.specs.declared.input.Input.{Input}
-use Rattle.rs_order.specs.Runs.{IsFormed}
-use Rattle.rs_order.specs.Stores.{first_some, own, own_next}
-use Rattle.rs_order.specs.Stores.{entry_at as carried_entry}
-use Rattle.rs_order.proofs.FormLaws.{formed_store}
-use Rattle.rs_order.proofs.Verdicts.{formed_carried}
+use Rattle.rs_store.specs.Runs.{IsFormed}
+use Rattle.rs_store.specs.Stores.{first_some, own, own_next}
+use Rattle.rs_store.specs.Stores.{entry_at as carried_entry}
+use Rattle.rs_store.proofs.FormLaws.{formed_store}
+use Rattle.rs_store.proofs.Verdicts.{formed_carried}
 use Rattle.rs_check.specs.Laws.{check}
 use Rattle.rs_check.specs.Lines.{carried_at, entry_in}
 use Rattle.rs_check.specs.Values.{count_of, entry_at, region_of}

@@ -10,8 +10,8 @@ use Rattle.rs_entry.specs.declared.outcome.Mode.{Mode}
 use Rattle.rs_entry.specs.declared.outcome.Mode.TheVariants as mode
 use Rattle.rs_region.specs.Verdicts.{verdict}
 use Rattle.rs_region.specs.declared.state.RegionState.{RegionState}
-use Rattle.rs_order.specs.Stores.{is_accept, is_removal_of, is_reshaping}
-use Rattle.rs_value.specs.Parts.{Part, mode_before}
+use Rattle.rs_store.specs.Stores.{is_accept, is_removal_of, is_reshaping}
+use Rattle.rs_part.specs.Parts.{Part, mode_before}
 use Rattle.rs_check.specs.declared.plan.Maker.{Maker}
 use Rattle.rs_check.specs.declared.plan.Maker.TheVariants as makers
 use Rattle.rs_check.specs.Laws.{check}

@@ -11,17 +11,17 @@ use Rattle.rs_entry.specs.declared.input.Input.{Input}
 use Rattle.rs_entry.specs.declared.outcome.Mode.TheVariants as mode
 use Rattle.rs_region.specs.Verdicts.{verdict, verdict_on}
 use Rattle.rs_region.specs.declared.verdict.Verdict.TheVariants as verdicts
-use Rattle.rs_order.specs.declared.regions.Made.{Made}
-use Rattle.rs_order.specs.Stores.{Applied, is_prepared_for, opening}
-use Rattle.rs_order.proofs.Verdicts.{commit_good}
-use Rattle.rs_value.specs.Effects.{Stepping}
-use Rattle.rs_value.specs.Parts.{Part, part_of}
-use Rattle.rs_value.specs.Scripts.{IsPart}
-use Rattle.rs_value.specs.Sound.{Sound}
-use Rattle.rs_value.proofs.Endings.{last_has}
-use Rattle.rs_value.proofs.Modes.{live_unmarked, live_unmerged}
-use Rattle.rs_value.proofs.Opening.{opening_normal}
-use Rattle.rs_value.proofs.Parts.{one_part}
+use Rattle.rs_store.specs.declared.regions.Made.{Made}
+use Rattle.rs_store.specs.Stores.{Applied, is_prepared_for, opening}
+use Rattle.rs_store.proofs.Verdicts.{commit_good}
+use Rattle.rs_part.specs.Effects.{Stepping}
+use Rattle.rs_part.specs.Parts.{Part, part_of}
+use Rattle.rs_part.specs.Scripts.{IsPart}
+use Rattle.rs_part.specs.Sound.{Sound}
+use Rattle.rs_part.proofs.Endings.{last_has}
+use Rattle.rs_part.proofs.Modes.{live_unmarked, live_unmerged}
+use Rattle.rs_part.proofs.Opening.{opening_normal}
+use Rattle.rs_part.proofs.Parts.{one_part}
 use Rattle.rs_check.specs.declared.plan.Maker.{Maker}
 use Rattle.rs_check.specs.declared.plan.Maker.TheVariants as makers
 use Rattle.rs_check.specs.Laws.{check}

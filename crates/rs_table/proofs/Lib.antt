@@ -24,7 +24,6 @@ pub mod RangeSteps
 pub mod StepRanges
 pub mod CutLaws
 pub mod Owners
-mod InputLaws
 mod WorkedCases
 pub mod RowOrder
 pub mod Spans

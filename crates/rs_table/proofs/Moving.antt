@@ -6,8 +6,8 @@ use Rattle.std.proofs.lemmas.Bool.{both_ways, cases_lt, leb-true}
 use Rattle.rs_entry.specs.WellFormed.{WellFormed}
 use Rattle.rs_entry.specs.declared.input.Input.{Input}
 use Rattle.rs_region.specs.Reshapings.{merged_into}
-use Rattle.rs_value.specs.Parts.{Part}
-use Rattle.rs_value.specs.Scripts.{accepted, after_by}
+use Rattle.rs_part.specs.Parts.{Part}
+use Rattle.rs_part.specs.Scripts.{accepted, after_by}
 use Rattle.rs_check.specs.declared.plan.Maker.{Maker}
 use Rattle.rs_check.specs.declared.plan.Maker.TheVariants as makers
 use Rattle.rs_check.specs.Laws.{check}

@@ -10,20 +10,20 @@ use Rattle.rs_entry.specs.declared.input.Input.{Input}
 use Rattle.rs_entry.specs.declared.input.Store.{Store}
 use Rattle.rs_region.specs.Reshapings.{boot}
 use Rattle.rs_region.specs.declared.state.RegionState.{RegionState}
-use Rattle.rs_order.specs.Indexes.{AreRising}
-use Rattle.rs_order.specs.Runs.{forget}
-use Rattle.rs_order.specs.declared.regions.Made.{Made}
-use Rattle.rs_order.specs.declared.regions.Origin.TheVariants as origins
-use Rattle.rs_order.specs.Stores.{born, entries_in, ids_of, no_regions, opening, own, with_regions}
-use Rattle.rs_value.specs.Counting.{IsAmong}
-use Rattle.rs_value.specs.Items.{no_items}
-use Rattle.rs_value.specs.Parts.{Part}
-use Rattle.rs_value.specs.Telling.{boot_states}
-use Rattle.rs_value.proofs.Canonical.{canonical}
-use Rattle.rs_value.proofs.Covering.{regions_exact}
-use Rattle.rs_value.proofs.Members.{among_all, among_find, among_flat, among_get}
-use Rattle.rs_value.proofs.Opening.{opening_sound, order_grows}
-use Rattle.rs_value.proofs.Origins.{boot_birth}
+use Rattle.rs_store.specs.Indexes.{AreRising}
+use Rattle.rs_store.specs.Runs.{forget}
+use Rattle.rs_store.specs.declared.regions.Made.{Made}
+use Rattle.rs_store.specs.declared.regions.Origin.TheVariants as origins
+use Rattle.rs_store.specs.Stores.{born, entries_in, ids_of, no_regions, opening, own, with_regions}
+use Rattle.rs_part.specs.Counting.{IsAmong}
+use Rattle.rs_part.specs.Items.{no_items}
+use Rattle.rs_part.specs.Parts.{Part}
+use Rattle.rs_part.specs.Telling.{boot_states}
+use Rattle.rs_part.proofs.Canonical.{canonical}
+use Rattle.rs_part.proofs.Covering.{regions_exact}
+use Rattle.rs_part.proofs.Members.{among_all, among_find, among_flat, among_get}
+use Rattle.rs_part.proofs.Opening.{opening_sound, order_grows}
+use Rattle.rs_part.proofs.Origins.{boot_birth}
 use Rattle.rs_check.specs.declared.plan.Maker.{Maker}
 use Rattle.rs_check.specs.declared.plan.Maker.TheVariants as makers
 use Rattle.rs_check.specs.declared.rows.Row.{Row}

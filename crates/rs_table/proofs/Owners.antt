@@ -4,8 +4,8 @@ use Rattle.std.specs.Prelude.{find, MatchOption}
 use Rattle.std.proofs.lemmas.Bool.{and_from, and_parts, both_ways}
 use Rattle.rs_key.specs.Ranges.{holds}
 use Rattle.rs_region.specs.declared.state.RegionState.{RegionState}
-use Rattle.rs_order.specs.Stores.{is_live}
-use Rattle.rs_value.proofs.Members.{among_find, find_none}
+use Rattle.rs_store.specs.Stores.{is_live}
+use Rattle.rs_part.proofs.Members.{among_find, find_none}
 use Rattle.rs_check.specs.Tables.{owner, owns}
 use Rattle.rs_check.specs.Tables.{region_of as owner_id}
 use Rattle.rs_table.specs.Covers.{IsOwner, NoneOwns}

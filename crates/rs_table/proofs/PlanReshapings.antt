@@ -8,16 +8,16 @@ use Rattle.rs_region.proofs.CutParts.{all_map}
 use Rattle.rs_entry.specs.WellFormed.{WellFormed}
 use Rattle.rs_entry.specs.declared.input.Input.{Input}
 use Rattle.rs_entry.specs.declared.input.Store.{Store}
-use Rattle.rs_order.specs.declared.regions.Made.{Made}
-use Rattle.rs_order.specs.declared.regions.Origin.TheVariants as origins
-use Rattle.rs_order.specs.Stores.{Applied, Went, born, is_accept, is_reshaping, last, no_regions, opening, step}
-use Rattle.rs_value.specs.Effects.{Stepping}
-use Rattle.rs_value.specs.Scripts.{Script}
-use Rattle.rs_value.specs.Telling.{Begins, Tells, boot_states}
-use Rattle.rs_value.proofs.Endings.{last_has}
-use Rattle.rs_value.proofs.Regions.{regions_all}
-use Rattle.rs_value.proofs.Reshapings.{count_to}
-use Rattle.rs_value.proofs.Traces.{step_traces}
+use Rattle.rs_store.specs.declared.regions.Made.{Made}
+use Rattle.rs_store.specs.declared.regions.Origin.TheVariants as origins
+use Rattle.rs_store.specs.Stores.{Applied, Went, born, is_accept, is_reshaping, last, no_regions, opening, step}
+use Rattle.rs_part.specs.Effects.{Stepping}
+use Rattle.rs_part.specs.Scripts.{Script}
+use Rattle.rs_part.specs.Telling.{Begins, Tells, boot_states}
+use Rattle.rs_part.proofs.Endings.{last_has}
+use Rattle.rs_part.proofs.Regions.{regions_all}
+use Rattle.rs_part.proofs.Reshapings.{count_to}
+use Rattle.rs_part.proofs.Traces.{step_traces}
 use Rattle.rs_check.specs.Laws.{check}
 use Rattle.rs_check.specs.Plans.{reshapings_of, stop_of}
 use Rattle.rs_check.specs.Scripts.{script_of}

@@ -13,11 +13,11 @@ use Rattle.rs_region.specs.Reshapings.{committed, merged_into, new_region, share
 use Rattle.rs_region.specs.declared.state.RegionState.{RegionState}
 use Rattle.rs_region.proofs.JoinKeys.{join_holds, join_rises}
 use Rattle.rs_region.proofs.SplitShares.{split_shares}
-use Rattle.rs_order.specs.Stores.{is_unmerged}
-use Rattle.rs_value.specs.Counting.{IsAmong}
-use Rattle.rs_value.specs.Ranges.{Apart, EachId, StatesApart}
-use Rattle.rs_value.proofs.Cutting.{all_normal, all_ranges, find_each, states_apart}
-use Rattle.rs_value.proofs.Members.{among_all, among_find}
+use Rattle.rs_store.specs.Stores.{is_unmerged}
+use Rattle.rs_part.specs.Counting.{IsAmong}
+use Rattle.rs_part.specs.Ranges.{Apart, EachId, StatesApart}
+use Rattle.rs_part.proofs.Cutting.{all_normal, all_ranges, find_each, states_apart}
+use Rattle.rs_part.proofs.Members.{among_all, among_find}
 use Rattle.rs_table.proofs.NeedLists.{or_right}
 use Rattle.rs_table.proofs.Tables.{or_else, put_over}
 

@@ -8,18 +8,18 @@ use Rattle.rs_entry.specs.declared.entry.Entry.{Entry}
 use Rattle.rs_entry.specs.declared.input.Input.{Input}
 use Rattle.rs_entry.specs.declared.input.Store.{Store}
 use Rattle.rs_entry.specs.declared.outcome.Mode.TheVariants as mode
-use Rattle.rs_order.specs.declared.regions.Made.{Made}
-use Rattle.rs_order.specs.Stores.{Applied, Went, entries_in, is_live, is_ready, is_removal_of, is_unmerged, last, opening, step}
-use Rattle.rs_value.specs.Effects.{Stepping}
-use Rattle.rs_value.specs.Scripts.{Script}
-use Rattle.rs_value.specs.Sound.{Removal, Sound}
-use Rattle.rs_value.specs.Telling.{Begins, Tells}
-use Rattle.rs_value.proofs.Canonical.{canonical}
-use Rattle.rs_value.proofs.Following.{order_keeps}
-use Rattle.rs_value.proofs.Meeting.{stepping}
-use Rattle.rs_value.proofs.Modes.{unmerged_cases}
-use Rattle.rs_value.proofs.Opening.{opening_normal, opening_sound}
-use Rattle.rs_value.proofs.Orders.{step_sound}
+use Rattle.rs_store.specs.declared.regions.Made.{Made}
+use Rattle.rs_store.specs.Stores.{Applied, Went, entries_in, is_live, is_ready, is_removal_of, is_unmerged, last, opening, step}
+use Rattle.rs_part.specs.Effects.{Stepping}
+use Rattle.rs_part.specs.Scripts.{Script}
+use Rattle.rs_part.specs.Sound.{Removal, Sound}
+use Rattle.rs_part.specs.Telling.{Begins, Tells}
+use Rattle.rs_part.proofs.Canonical.{canonical}
+use Rattle.rs_part.proofs.Following.{order_keeps}
+use Rattle.rs_part.proofs.Meeting.{stepping}
+use Rattle.rs_part.proofs.Modes.{unmerged_cases}
+use Rattle.rs_part.proofs.Opening.{opening_normal, opening_sound}
+use Rattle.rs_part.proofs.Orders.{step_sound}
 use Rattle.rs_check.specs.Laws.{check}
 use Rattle.rs_check.specs.Lawfulness.{Accepted}
 use Rattle.rs_check.specs.Plans.{address_of, ends_of, stop_of}
@@ -27,7 +27,7 @@ use Rattle.rs_check.specs.Scripts.{script_of}
 use Rattle.rs_check.specs.Values.{count_of, region_of}
 use Rattle.rs_check.proofs.Addresses.{ends, home, stored, stops}
 use Rattle.rs_check.proofs.PartLaws.{is_part, line_here}
-use Rattle.rs_value.specs.Parts.{Part}
+use Rattle.rs_part.specs.Parts.{Part}
 
 -- what each step between two sound states keeps holds at the end, where it holds at the start
 pub last_keeps : (script : Script) (store : Store) → Tells script store → Begins script store → (P : Applied → Type 0) → P (opening store)

@@ -7,9 +7,9 @@ use Rattle.rs_entry.specs.WellFormed.{Rising, WellFormed}
 use Rattle.rs_entry.specs.declared.input.Input.{Input}
 use Rattle.rs_entry.specs.declared.input.Store.{Store}
 use Rattle.rs_region.proofs.CutParts.{all_map}
-use Rattle.rs_order.specs.declared.regions.Made.{Made}
-use Rattle.rs_order.specs.Stores.{Broke, ByRegion, Stepped, Went, add_all, ids_in_log, ids_of, insert_id, last}
-use Rattle.rs_value.proofs.Members.{among_all, among_get}
+use Rattle.rs_store.specs.declared.regions.Made.{Made}
+use Rattle.rs_store.specs.Stores.{Broke, ByRegion, Stepped, Went, add_all, ids_in_log, ids_of, insert_id, last}
+use Rattle.rs_part.proofs.Members.{among_all, among_get}
 use Rattle.rs_check.specs.declared.rows.Row.{Row}
 use Rattle.rs_check.specs.Plans.{row_of, rows_at, rows_in, rows_of, store_rows}
 use Rattle.rs_check.specs.Values.{region_of}

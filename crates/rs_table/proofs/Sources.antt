@@ -13,10 +13,10 @@ use Rattle.rs_entry.specs.declared.input.Input.{Input}
 use Rattle.rs_entry.specs.declared.outcome.Mode.TheVariants as mode
 use Rattle.rs_region.specs.Reshapings.{boot}
 use Rattle.rs_region.specs.declared.state.RegionState.{RegionState}
-use Rattle.rs_order.specs.Stores.{is_prepared_for}
-use Rattle.rs_value.specs.Items.{no_items}
-use Rattle.rs_value.specs.Parts.{Part}
-use Rattle.rs_value.specs.Scripts.{accepted, after_by, joined_part, may_join, with_source}
+use Rattle.rs_store.specs.Stores.{is_prepared_for}
+use Rattle.rs_part.specs.Items.{no_items}
+use Rattle.rs_part.specs.Parts.{Part}
+use Rattle.rs_part.specs.Scripts.{accepted, after_by, joined_part, may_join, with_source}
 use Rattle.rs_check.specs.declared.plan.Maker.{Maker}
 use Rattle.rs_check.specs.declared.plan.Maker.TheVariants as makers
 use Rattle.rs_check.specs.Laws.{check}

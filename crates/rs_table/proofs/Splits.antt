@@ -6,19 +6,19 @@ use Rattle.std.proofs.lemmas.Bool.{cases_eq}
 use Rattle.rs_region.specs.declared.state.RegionState.{RegionState}
 use Rattle.rs_region.specs.Verdicts.{verdict}
 use Rattle.rs_entry.specs.declared.input.Store.{Store}
-use Rattle.rs_order.specs.declared.regions.Made.{Made}
-use Rattle.rs_order.specs.declared.regions.Origin.TheVariants as origins
-use Rattle.rs_order.specs.Stores.{Applied, Went, born, is_accept, is_reshaping, last, no_regions, opening, step}
-use Rattle.rs_value.specs.Counting.{IsAmong}
-use Rattle.rs_value.specs.Effects.{Stepping}
-use Rattle.rs_value.specs.Scripts.{Script}
-use Rattle.rs_value.specs.Sound.{Sound}
-use Rattle.rs_value.specs.Telling.{Begins, Tells, boot_states}
-use Rattle.rs_value.proofs.Children.{unmade}
-use Rattle.rs_value.proofs.Endings.{last_has}
-use Rattle.rs_value.proofs.Members.{among_left, among_right}
-use Rattle.rs_value.proofs.Regions.{regions_all}
-use Rattle.rs_value.proofs.Traces.{Fresh, shapings_after, step_traces}
+use Rattle.rs_store.specs.declared.regions.Made.{Made}
+use Rattle.rs_store.specs.declared.regions.Origin.TheVariants as origins
+use Rattle.rs_store.specs.Stores.{Applied, Went, born, is_accept, is_reshaping, last, no_regions, opening, step}
+use Rattle.rs_part.specs.Counting.{IsAmong}
+use Rattle.rs_part.specs.Effects.{Stepping}
+use Rattle.rs_part.specs.Scripts.{Script}
+use Rattle.rs_part.specs.Sound.{Sound}
+use Rattle.rs_part.specs.Telling.{Begins, Tells, boot_states}
+use Rattle.rs_part.proofs.Children.{unmade}
+use Rattle.rs_part.proofs.Endings.{last_has}
+use Rattle.rs_part.proofs.Members.{among_left, among_right}
+use Rattle.rs_part.proofs.Regions.{regions_all}
+use Rattle.rs_part.proofs.Traces.{Fresh, shapings_after, step_traces}
 
 -- the region has such a reshaping
 pub record Shaped (g : Applied) (p index : ℕ) : Type 0 where

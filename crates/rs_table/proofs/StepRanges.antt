@@ -12,10 +12,10 @@ use Rattle.rs_entry.specs.declared.input.Input.{Input}
 use Rattle.rs_region.specs.Reshapings.{committed, merged_into, prepared, reconfigured, removed, rolled_back, split_kept, split_new}
 use Rattle.rs_region.specs.Verdicts.{verdict_on}
 use Rattle.rs_region.specs.declared.state.RegionState.{RegionState}
-use Rattle.rs_order.proofs.Verdicts.{split_good}
-use Rattle.rs_order.specs.Stores.{conf_changed, is_removal_of, is_reshaping, is_unmerged}
-use Rattle.rs_value.specs.Settled.{Commits}
-use Rattle.rs_value.proofs.Modes.{live_unmerged}
+use Rattle.rs_store.proofs.Verdicts.{split_good}
+use Rattle.rs_store.specs.Stores.{conf_changed, is_removal_of, is_reshaping, is_unmerged}
+use Rattle.rs_part.specs.Settled.{Commits}
+use Rattle.rs_part.proofs.Modes.{live_unmerged}
 use Rattle.rs_check.specs.Laws.{check}
 use Rattle.rs_check.specs.Plans.{address_of, stop_of}
 use Rattle.rs_check.specs.Scripts.{script_of}

@@ -16,15 +16,15 @@ use Rattle.rs_entry.specs.declared.input.Input.{Input}
 use Rattle.rs_region.specs.Reshapings.{committed, merged_into, new_ranges, prepared, reconfigured, removed, rolled_back, split_kept, split_new}
 use Rattle.rs_region.specs.Verdicts.{verdict_on}
 use Rattle.rs_region.specs.declared.state.RegionState.{RegionState}
-use Rattle.rs_order.proofs.Verdicts.{split_good}
-use Rattle.rs_order.specs.Runs.{IsFormed}
-use Rattle.rs_order.specs.Stores.{conf_changed, is_removal_of, is_reshaping}
-use Rattle.rs_value.specs.Items.{kept_items}
-use Rattle.rs_value.specs.Parts.{Part}
-use Rattle.rs_value.specs.Ranges.{EachId}
-use Rattle.rs_value.specs.Scripts.{accepted, joined_part}
-use Rattle.rs_value.proofs.Cutting.{each_id}
-use Rattle.rs_value.proofs.Members.{among_all, among_find}
+use Rattle.rs_store.proofs.Verdicts.{split_good}
+use Rattle.rs_store.specs.Runs.{IsFormed}
+use Rattle.rs_store.specs.Stores.{conf_changed, is_removal_of, is_reshaping}
+use Rattle.rs_part.specs.Items.{kept_items}
+use Rattle.rs_part.specs.Parts.{Part}
+use Rattle.rs_part.specs.Ranges.{EachId}
+use Rattle.rs_part.specs.Scripts.{accepted, joined_part}
+use Rattle.rs_part.proofs.Cutting.{each_id}
+use Rattle.rs_part.proofs.Members.{among_all, among_find}
 use Rattle.rs_check.specs.Laws.{check}
 use Rattle.rs_check.specs.Lawfulness.{Born}
 use Rattle.rs_check.specs.Plans.{address_of, reshapings_of}

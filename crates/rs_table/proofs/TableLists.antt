@@ -8,7 +8,7 @@ use Rattle.rs_entry.specs.WellFormed.{WellFormed}
 use Rattle.rs_entry.specs.declared.input.Input.{Input}
 use Rattle.rs_region.specs.declared.state.RegionState.{RegionState}
 use Rattle.rs_region.proofs.CutParts.{all_map}
-use Rattle.rs_value.specs.Parts.{Part}
+use Rattle.rs_part.specs.Parts.{Part}
 use Rattle.rs_check.specs.Laws.{check}
 use Rattle.rs_check.specs.Values.{count_of, part_at, region_of}
 use Rattle.rs_table.specs.Cuts.{Cut, birth_of, covers, index_after, is_on}

@@ -5,7 +5,7 @@ use Rattle.std.specs.List.{AllByRecursion}
 use Rattle.std.proofs.lemmas.Bool.{cases_eq, cases_lt, eq-eqb, eqb-true, ltb-false, ltb-true, ne_eqb}
 use Rattle.rs_region.specs.declared.state.RegionState.{RegionState}
 use Rattle.rs_region.proofs.CutParts.{all_map}
-use Rattle.rs_value.specs.Ranges.{EachId}
+use Rattle.rs_part.specs.Ranges.{EachId}
 use Rattle.rs_table.specs.Changes.{with_state, with_states}
 use Rattle.rs_table.specs.Rows.{IdsRise, state_of}
 

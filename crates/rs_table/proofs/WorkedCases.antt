@@ -8,7 +8,7 @@ use Rattle.rs_entry.specs.declared.input.Input.{Input}
 use Rattle.rs_entry.specs.declared.outcome.Mode.{Mode}
 use Rattle.rs_entry.specs.declared.outcome.Mode.TheVariants as mode
 use Rattle.rs_region.specs.declared.state.RegionState.{RegionState}
-use Rattle.rs_value.specs.Parts.{at}
+use Rattle.rs_part.specs.Parts.{at}
 use Rattle.rs_check.specs.Plans.{rows_of, store_rows}
 use Rattle.rs_check.specs.Values.{part_on}
 use Rattle.rs_table.specs.Cuts.{Cut, birth_of, index_after, is_on, prepare_of}

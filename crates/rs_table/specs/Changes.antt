@@ -4,7 +4,7 @@ use Rattle.rs_entry.specs.declared.entry.Body.{Body}
 use Rattle.rs_entry.specs.declared.entry.Body.TheVariants as body
 use Rattle.rs_region.specs.Reshapings.{split_kept, split_new, prepared, rolled_back, committed, merged_into}
 use Rattle.rs_region.specs.declared.state.RegionState.{RegionState}
-use Rattle.rs_order.specs.Stores.{conf_changed}
+use Rattle.rs_store.specs.Stores.{conf_changed}
 use Rattle.rs_table.specs.Rows.{state_of}
 
 -- the states with this one at its region's place

@@ -5,9 +5,9 @@ use Rattle.rs_key.specs.Ranges.{holds}
 use Rattle.rs_entry.specs.declared.input.Input.{Input}
 use Rattle.rs_entry.specs.declared.input.Store.{Store}
 use Rattle.rs_region.specs.declared.state.RegionState.{RegionState}
-use Rattle.rs_order.specs.Stores.{is_live, is_unmerged}
-use Rattle.rs_value.specs.Counting.{IsAmong}
-use Rattle.rs_value.specs.Ranges.{Apart}
+use Rattle.rs_store.specs.Stores.{is_live, is_unmerged}
+use Rattle.rs_part.specs.Counting.{IsAmong}
+use Rattle.rs_part.specs.Ranges.{Apart}
 use Rattle.rs_check.specs.Tables.{owner}
 use Rattle.rs_table.specs.Cuts.{Cut, IsCut, IsFull, is_on}
 use Rattle.rs_table.specs.Rows.{IsTable, final_rows, final_state, row_at, state_of, table_of}

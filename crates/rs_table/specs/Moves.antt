@@ -7,7 +7,7 @@ use Rattle.rs_entry.specs.declared.entry.Entry.{Entry}
 use Rattle.rs_entry.specs.declared.input.Input.{Input}
 use Rattle.rs_entry.specs.declared.input.Store.{Store}
 use Rattle.rs_region.specs.declared.state.RegionState.{RegionState}
-use Rattle.rs_value.specs.Telling.{boot_states}
+use Rattle.rs_part.specs.Telling.{boot_states}
 use Rattle.rs_check.specs.Plans.{address_of, reshapings_of}
 use Rattle.rs_check.specs.Values.{region_of}
 use Rattle.rs_table.specs.Changes.{changes, with_states}

@@ -9,9 +9,9 @@ use Rattle.rs_entry.specs.declared.input.Store.{Store}
 use Rattle.rs_entry.specs.declared.outcome.Mode.{Mode}
 use Rattle.rs_region.specs.Reshapings.{merged_into, removed}
 use Rattle.rs_region.specs.declared.state.RegionState.{RegionState}
-use Rattle.rs_order.specs.Indexes.{AreRising}
-use Rattle.rs_order.specs.Stores.{is_removal_of}
-use Rattle.rs_value.specs.Parts.{Part}
+use Rattle.rs_store.specs.Indexes.{AreRising}
+use Rattle.rs_store.specs.Stores.{is_removal_of}
+use Rattle.rs_part.specs.Parts.{Part}
 use Rattle.rs_check.specs.Plans.{rows_of, is_at, address_of, ends_of, stop_of}
 use Rattle.rs_check.specs.Values.{count_of, region_of, part_at}
 use Rattle.rs_table.specs.Cuts.{Cut, is_on, index_after, entry_of_nth, birth_of, covers}

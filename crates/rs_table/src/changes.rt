@@ -3,8 +3,8 @@
 ghost use Rattle.std.specs.Prelude.{◌≡◌, ◌<◌, ◌≤◌, ◌^◌, ◌∷◌, [], true, None, length, IfOk};
 ghost use Rattle.rs_key.specs.Ranges.{first_bad_cut};
 ghost use Rattle.rs_region.specs.Reshapings.{split_kept, split_new, prepared, rolled_back};
-ghost use Rattle.rs_order.specs.Runs.{line_entry};
-ghost use Rattle.rs_order.specs.Stores.{conf_changed, is_removal_of};
+ghost use Rattle.rs_store.specs.Runs.{line_entry};
+ghost use Rattle.rs_store.specs.Stores.{conf_changed, is_removal_of};
 ghost use Rattle.rs_entry.specs.declared.entry.Body.TheVariants as body;
 ghost use Rattle.rs_table.specs.Changes.{changes, joined};
 ghost use Rattle.rs_table.specs.Moves.{IsReady, IsSmall, MayChange};

@@ -7,7 +7,7 @@
 #![tactic(auto)]
 
 mod changes;
-mod growing;
+mod cut;
 mod laws;
 mod needs;
 mod opening;
@@ -18,6 +18,3 @@ mod waiters;
 
 pub use laws::table_laws;
 pub use table::StoreTable;
-
-#[cfg(test)]
-mod tests;

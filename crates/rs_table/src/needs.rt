@@ -1,6 +1,6 @@
 ghost use Rattle.std.specs.Prelude.{◌≡◌, ◌+◌, ◌<◌, ◌≤◌, IfOk, length, Some, get_or, None, IsTrue};
 ghost use Rattle.std.specs.Option.{option_map};
-ghost use Rattle.rs_order.specs.Runs.{line_entry};
+ghost use Rattle.rs_store.specs.Runs.{line_entry};
 ghost use Rattle.rs_check.specs.Values.{count_of, reshaped_by};
 ghost use Rattle.rs_check.specs.Plans.{reshapings_of};
 ghost use Rattle.rs_table.specs.Cuts.{birth_of, entry_of_nth, is_on, merge_by, prepare_of};

@@ -2,8 +2,8 @@ ghost use Rattle.std.specs.Prelude.{◌≡◌, ◌<◌, ◌||◌, ◌&&◌, ◌�
 ghost use Rattle.std.specs.Option.{option_copied};
 ghost use Rattle.rs_region.specs.declared.state.RegionState.{RegionState};
 ghost use Rattle.rs_key.specs.Ranges.{holds};
-ghost use Rattle.rs_order.specs.Stores.{is_live};
-ghost use Rattle.rs_value.specs.Counting.{IsAmong};
+ghost use Rattle.rs_store.specs.Stores.{is_live};
+ghost use Rattle.rs_part.specs.Counting.{IsAmong};
 ghost use Rattle.rs_check.specs.Tables.{owner};
 ghost use Rattle.rs_check.specs.Values.{count_of, region_of};
 ghost use Rattle.rs_table.specs.Covers.{IsOwner, NoneOwns};
@@ -12,7 +12,7 @@ ghost use Rattle.rs_table.specs.Moves.{nothing_covered};
 ghost use Rattle.rs_table.specs.Rows.{IsTable, final_state, state_of};
 ghost use Rattle.rs_table.specs.Tellings.{has, is_this, nothing, numbers};
 
-use crate::growing::Growing;
+use crate::cut::Growing;
 use crate::laws::table_laws;
 use crate::needs::is_on;
 use crate::place::find;
@@ -47,7 +47,7 @@ impl<'p> StoreTable<'p> {
         })
     }
 
-    /// Takes to know that the address's nth reshaping, counted from 1, was made: in any order, and as often as may be.
+    /// Records that the address's nth reshaping, counted from 1, was made. Calls may come in any order and may repeat.
     ///
     /// What the plan doesn't have, what is of another store, and what was told already, changes nothing. What can't follow yet is held back.
     /// After NoMemory the table is that of a cut of what was told, this reshaping too, which contains the cut before;

@@ -27,7 +27,7 @@ impl Told {
         self.by.contains(&(address, nth))
     }
 
-    /// From here on this was told too.
+    /// Records that this was told.
     pub fn put(&mut self, address: u32, nth: u64) -> Result<(), NoMemory>
         ensures ok { OnOk result ((a n : ℕ) → has self.new a n ≡ has self.old a n || is_this address nth a n) }
         ensures err { OnErr result ((a n : ℕ) → has self.new a n ≡ has self.old a n) }

@@ -31,7 +31,7 @@ impl Waiters {
         }
     }
 
-    /// From here on the address `x` needs it too.
+    /// Records that the address `x` needs it too.
     pub fn add(&mut self, alloc: Global, need: (u32, u64), x: u32) -> Result<(), NoMemory>
         ensures { OnOk result ((a n : ℕ) → waiters self.new a n ≡ with_waiter (waiters self.old) need x a n) }
     {

@@ -1,5 +1,6 @@
 pub mod BothWays
 pub mod CanonLaws
+pub mod CountedLogs
 pub mod FaultLaws
 mod FaultVectors
 pub mod FieldLaws

@@ -5,7 +5,7 @@ ghost use Rattle.rs_entry.specs.Entries.{ops_in, pairs_in};
 ghost use Rattle.rs_field.specs.Gives.{Gives, Takes, TakesPlain};
 ghost use Rattle.rs_text.specs.Bodies.{op_at, ops_at, write_at, side_at, pair_at, pairs_at, split_at, last_number_at, target_at, commit_at, is_body_word, is_conf_word, conf_at, peers_at, boot_peers_at};
 
-use rs_entry::{Body, Change, Op, Side};
+use rs_entry::{Body, Change, INIT_INDEX, Op, Side};
 use rs_field::{Fields, LineError, TextKind, id_of, is_word};
 use rs_key::{Key, NoMemory, Rows};
 use std::alloc::Global;
@@ -161,7 +161,7 @@ pub fn commit(fields: &mut Fields<'_>) -> Result<(u64, u64, u64), TextKind>
     if count > CARRIED {
         return Err(TextKind::Limit);
     }
-    if count != 0 && commit < count + 5 {
+    if count != 0 && commit < count + INIT_INDEX {
         return Err(TextKind::BadCarry);
     }
     fields.end()?;

@@ -14,8 +14,6 @@ mod outcomes;
 mod progress;
 mod reading;
 mod steps;
-#[cfg(test)]
-mod tests;
 mod writing;
 
 pub use error::TextError;

@@ -3,7 +3,7 @@
 ghost use Rattle.std.specs.Prelude.{◌≡◌};
 ghost use Rattle.rs_text.specs.Steps.{start};
 
-use rs_entry::{Boot, Carried, Entry, Log, Store};
+use rs_entry::{Boot, Carried, Entry, FIRST_INDEX, Log, Store};
 use rs_key::{Epoch, Rows};
 use std::alloc::Global;
 
@@ -59,7 +59,7 @@ pub fn start(alloc: Global, version: u64) -> Progress
         logs: Rows::new(alloc),
         log: 0,
         entries: Rows::new(alloc),
-        next: 6,
+        next: FIRST_INDEX,
         commit: None,
         boots: 0,
         lines: 0,

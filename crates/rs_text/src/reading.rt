@@ -3,7 +3,7 @@
 ghost use Rattle.std.specs.Prelude.{◌≡◌, Ok, IfOk};
 ghost use Rattle.rs_field.specs.Lines.{parts_of, fields_of};
 ghost use Rattle.rs_text.specs.Steps.{Counts, start};
-ghost use Rattle.rs_text.specs.Grammar.{Belongs};
+ghost use Rattle.rs_text.specs.Grammar.{Belongs, HasFewLogs};
 ghost use Rattle.rs_text.specs.FirstFault.{NoneBelongs, NoneBefore};
 ghost use Rattle.rs_text.specs.Reading.{GivesText, FaultAt, version_of, header_of, input_of, last_line, read_from, read_text};
 
@@ -27,15 +27,17 @@ use std::alloc::Global;
 /// - `none`: where a fault is answered, no text that begins with the same lines, up to and with the line of
 ///   the fault, belongs to an input;
 /// - `before`: the lines before that line, as a text of their own, have no fault, but that `end` may be
-///   missing.
+///   missing;
+/// - `counted`: no store of an input that is answered has more logs than the text has bytes.
 ///
-/// The last two speak of lines that are ended by LF, and say nothing of the kind of the fault.
+/// `none` and `before` speak of lines that are ended by LF, and say nothing of the kind of the fault.
 pub fn read_logs(alloc: Global, text: &[u8]) -> Result<Input, TextError>
     ensures exact { GivesText result (read_text text.now) }
     ensures found { IfOk result (λ x. Belongs text.now x) }
     ensures only { (x : Input) → Belongs text.now x → GivesText result (Ok x) }
     ensures none { NoneBelongs text.now result }
     ensures before { NoneBefore text.now result }
+    ensures counted { IfOk result (HasFewLogs text.now) }
 {
     whole_text(alloc, text)
 }

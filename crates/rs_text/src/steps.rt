@@ -10,7 +10,7 @@ ghost use Rattle.rs_text.specs.Steps.{Makes, EndsLine, Counts, Opens, close_log,
 
 use crate::bodies;
 use crate::progress::{OpenCommit, Progress};
-use rs_entry::{Body, Boot, Carried, CarriedBody, Entry, Log, Store};
+use rs_entry::{Body, Boot, Carried, CarriedBody, Entry, FIRST_INDEX, Log, Store};
 use rs_field::{Fields, LineError, TextKind, is_word, number_of};
 use rs_key::{Epoch, NoMemory, Range, Rows};
 use std::alloc::Global;
@@ -38,7 +38,7 @@ pub fn close_log(alloc: Global, p: &mut Progress) -> Result<(), NoMemory>
         entries,
     })?;
     p.log = 0;
-    p.next = 6;
+    p.next = FIRST_INDEX;
     Ok(())
 }
 
@@ -98,7 +98,7 @@ fn log_line(alloc: Global, p: &mut Progress, fields: &mut Fields<'_>) -> Result<
     fields.end()?;
     close_log(alloc, p)?;
     p.log = id;
-    p.next = 6;
+    p.next = FIRST_INDEX;
     Ok(())
 }
 

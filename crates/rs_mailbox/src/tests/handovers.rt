@@ -1,11 +1,11 @@
 ghost use Rattle.std.specs.Prelude.{◌≡◌, ◌+◌, ◌^◌, ◌<◌, ◌≤◌, MatchOption, IfSome, All};
-ghost use Rattle.rs_mailcore.specs.declared.stances.Phase.TheVariants.{Calm};
+ghost use Rattle.rs_mailcore.specs.declared.thread.Phase.TheVariants.{Calm};
 ghost use Rattle.rs_mailbox.specs.Hands.{seen, IsHandOf, IsFresh, IsHeldBy};
 ghost use Rattle.rs_mailbox.specs.Making.{IsNewHand};
 
-use crate::{Back, Hand, Handover, Held, Lodger, Shut};
-use rs_key::Rows;
+use crate::{Back, Hand, Handover, HasCount, Held, Shut};
 use rs_mailcore::Named;
+use rs_rows::Rows;
 use std::sync::Wait;
 use std::sync::atomic::{AtomicU64, Ordering};
 use std::test::Fail;
@@ -24,7 +24,7 @@ impl Named for Parcel {
     ghost name = { λ _. 7 };
 }
 
-impl Lodger for Parcel {
+impl HasCount for Parcel {
     ghost count = { λ p. p.taken };
 }
 
@@ -33,10 +33,10 @@ const MOST: u64 = 1 << 62;
 const ROUNDS: u64 = 1000;
 
 fn handle_one(held: &mut Held<Parcel>)
-    requires few { held.old.lodging.handled < 2 ^ 62 }
-    requires count { held.old.lodging.value.taken ≡ held.old.lodging.handled }
-    ensures handled { held.new.lodging.handled ≡ held.old.lodging.handled + 1 }
-    ensures count { held.new.lodging.value.taken ≡ held.new.lodging.handled }
+    requires few { held.old.stored.handled < 2 ^ 62 }
+    requires count { held.old.stored.value.taken ≡ held.old.stored.handled }
+    ensures handled { held.new.stored.handled ≡ held.old.stored.handled + 1 }
+    ensures count { held.new.stored.value.taken ≡ held.new.stored.handled }
 {
     held.raise();
     held.value().taken += 1;
@@ -85,37 +85,11 @@ fn two_hands_pass_a_parcel(rt: HostRuntime) -> Result<(), Fail> {
     Ok(())
 }
 
-#[test]
-fn a_rescheduled_value_is_taken_again(rt: HostRuntime) -> Result<(), Fail> {
-    let Ok((handover, mut hands)) = Handover::new(rt.alloc(), Parcel { taken: 0 }, 2) else {
-        panic!(rt; "no memory")
-    };
-    let Some(mut a) = next_hand(&handover, &mut hands) else {
-        panic!(rt; "no hand")
-    };
-    let Some(mut b) = next_hand(&handover, &mut hands) else {
-        panic!(rt; "no hand")
-    };
-    handover.announce(&mut a);
-    assert!(rt; handover.notify(&mut a));
-    let Ok(held) = handover.take(&mut a) else {
-        panic!(rt; "not taken")
-    };
-    assert!(rt; handover.reschedule(&mut a, held).is_ok());
-    assert!(rt; handover.look(&mut b) == 0);
-    let Ok(held) = handover.take(&mut b) else {
-        panic!(rt; "not taken")
-    };
-    assert!(rt; matches!(handover.close(&mut a), Shut::Elsewhere));
-    assert!(rt; matches!(handover.reschedule(&mut b, held), Err(Parcel { taken: 0 })));
-    Ok(())
-}
-
 /// Handles up to the number that was sent.
 fn catch_up(held: &mut Held<Parcel>, sent: &AtomicU64)
-    requires count { held.old.lodging.value.taken ≡ held.old.lodging.handled }
-    ensures count { held.new.lodging.value.taken ≡ held.new.lodging.handled }
-    ensures more { held.old.lodging.handled ≤ held.new.lodging.handled }
+    requires count { held.old.stored.value.taken ≡ held.old.stored.handled }
+    ensures count { held.new.stored.value.taken ≡ held.new.stored.handled }
+    ensures more { held.old.stored.handled ≤ held.new.stored.handled }
 {
     let upto = sent.load(Ordering::SeqCst);
     'messages: for _ in held.handled()..upto {
@@ -133,10 +107,10 @@ fn give_back(
     held: Held<Parcel>,
 ) -> Option<Held<Parcel>>
     requires hand { IsHandOf ⟦<Parcel as Named>⟧.name handover.now hand.old }
-    requires held { IsHeldBy ⟦<Parcel as Named>⟧.name ⟦<Parcel as Lodger>⟧.count handover.now hand.old held }
+    requires held { IsHeldBy ⟦<Parcel as Named>⟧.name ⟦<Parcel as HasCount>⟧.count handover.now hand.old held }
     ensures hand { IsHandOf ⟦<Parcel as Named>⟧.name handover.now hand.new }
     ensures announced { (seen hand.new).stance.announced ≡ (seen hand.old).stance.announced }
-    ensures again { MatchOption result ((seen hand.new).stance.phase ≡ Calm) (λ x. IsHeldBy ⟦<Parcel as Named>⟧.name ⟦<Parcel as Lodger>⟧.count handover.now hand.new x) }
+    ensures again { MatchOption result ((seen hand.new).stance.phase ≡ Calm) (λ x. IsHeldBy ⟦<Parcel as Named>⟧.name ⟦<Parcel as HasCount>⟧.count handover.now hand.new x) }
 {
     match handover.release(hand, held) {
         Back::Idle => None,
@@ -153,7 +127,7 @@ fn serve<R: Wait>(
     sent: &AtomicU64,
 )
     requires hand { IsHandOf ⟦<Parcel as Named>⟧.name handover.now hand.old }
-    requires held { IsHeldBy ⟦<Parcel as Named>⟧.name ⟦<Parcel as Lodger>⟧.count handover.now hand.old held }
+    requires held { IsHeldBy ⟦<Parcel as Named>⟧.name ⟦<Parcel as HasCount>⟧.count handover.now hand.old held }
     ensures hand { IsHandOf ⟦<Parcel as Named>⟧.name handover.now hand.new }
     ensures announced { (seen hand.new).stance.announced ≡ (seen hand.old).stance.announced }
     ensures calm { (seen hand.new).stance.phase ≡ Calm }

@@ -3,8 +3,8 @@ ghost use Rattle.rs_mailbox.specs.Stations.{IsNewStation};
 
 use crate::tests::{Note, Tally};
 use crate::{Closed, Mailbox, Released, SendError, Station, Taken};
-use rs_key::Rows;
 use rs_mailcore::Named;
+use rs_rows::Rows;
 use std::test::Fail;
 
 pub fn next_station(
@@ -60,42 +60,8 @@ fn messages_come_in_the_order_of_their_sending(rt: HostRuntime) -> Result<(), Fa
     );
     assert!(rt; mailbox.next_message(&rt, &mut b, &mut turn).is_none());
     assert!(rt; turn.handled() == 3);
-    Ok(())
-}
-
-#[test]
-fn a_mailbox_rests_once_its_messages_are_taken(rt: HostRuntime) -> Result<(), Fail> {
-    let Ok((mailbox, mut stations)) = Mailbox::new(rt.alloc(), 3, Tally { total: 0 }, 2) else {
-        panic!(rt; "no memory")
-    };
-    let Some(mut a) = next_station(&mailbox, &mut stations) else {
-        panic!(rt; "no station")
-    };
-    let Some(mut b) = next_station(&mailbox, &mut stations) else {
-        panic!(rt; "no station")
-    };
-    let Ok(Some(ticket)) = mailbox.send(&rt, &mut a, Note { number: 1 }) else {
-        panic!(rt; "no ticket")
-    };
-    assert!(rt; matches!(mailbox.send(&rt, &mut b, Note { number: 2 }), Ok(None)));
-    let Taken::Machine(mut turn) = mailbox.take(&mut a, ticket) else {
-        panic!(rt; "not taken")
-    };
-    assert!(rt;
-        matches!(
-            mailbox.next_message(&rt, &mut a, &mut turn),
-            Some(Note { number: 1 })
-        )
-    );
-    assert!(rt;
-        matches!(
-            mailbox.next_message(&rt, &mut a, &mut turn),
-            Some(Note { number: 2 })
-        )
-    );
-    assert!(rt; mailbox.next_message(&rt, &mut a, &mut turn).is_none());
-    assert!(rt; matches!(mailbox.release(&mut a, turn), Released::Idle));
-    assert!(rt; matches!(mailbox.send(&rt, &mut b, Note { number: 3 }), Ok(Some(_))));
+    assert!(rt; matches!(mailbox.release(&mut b, turn), Released::Idle));
+    assert!(rt; matches!(mailbox.send(&rt, &mut a, Note { number: 13 }), Ok(Some(_))));
     Ok(())
 }
 
@@ -140,33 +106,6 @@ fn a_rescheduled_machine_runs_again(rt: HostRuntime) -> Result<(), Fail> {
 }
 
 #[test]
-fn a_machine_that_has_more_to_do_comes_again(rt: HostRuntime) -> Result<(), Fail> {
-    let Ok((mailbox, mut stations)) = Mailbox::new(rt.alloc(), 3, Tally { total: 0 }, 1) else {
-        panic!(rt; "no memory")
-    };
-    let Some(mut a) = next_station(&mailbox, &mut stations) else {
-        panic!(rt; "no station")
-    };
-    let Ok(Some(ticket)) = mailbox.send(&rt, &mut a, Note { number: 1 }) else {
-        panic!(rt; "no ticket")
-    };
-    let Taken::Machine(turn) = mailbox.take(&mut a, ticket) else {
-        panic!(rt; "not taken")
-    };
-    let Released::Again(mut turn) = mailbox.release(&mut a, turn) else {
-        panic!(rt; "not again")
-    };
-    assert!(rt;
-        matches!(
-            mailbox.next_message(&rt, &mut a, &mut turn),
-            Some(Note { number: 1 })
-        )
-    );
-    assert!(rt; matches!(mailbox.release(&mut a, turn), Released::Idle));
-    Ok(())
-}
-
-#[test]
 fn a_closed_mailbox_hands_out_no_message(rt: HostRuntime) -> Result<(), Fail> {
     let Ok((mailbox, mut stations)) = Mailbox::new(rt.alloc(), 3, Tally { total: 5 }, 2) else {
         panic!(rt; "no memory")
@@ -189,45 +128,5 @@ fn a_closed_mailbox_hands_out_no_message(rt: HostRuntime) -> Result<(), Fail> {
         )
     );
     assert!(rt; matches!(mailbox.take(&mut a, ticket), Taken::Not(2)));
-    Ok(())
-}
-
-#[test]
-fn a_turn_takes_messages_after_a_close(rt: HostRuntime) -> Result<(), Fail> {
-    let Ok((mailbox, mut stations)) = Mailbox::new(rt.alloc(), 3, Tally { total: 5 }, 2) else {
-        panic!(rt; "no memory")
-    };
-    let Some(mut a) = next_station(&mailbox, &mut stations) else {
-        panic!(rt; "no station")
-    };
-    let Some(mut b) = next_station(&mailbox, &mut stations) else {
-        panic!(rt; "no station")
-    };
-    let Ok(Some(ticket)) = mailbox.send(&rt, &mut a, Note { number: 1 }) else {
-        panic!(rt; "no ticket")
-    };
-    assert!(rt; matches!(mailbox.send(&rt, &mut a, Note { number: 2 }), Ok(None)));
-    let Taken::Machine(mut turn) = mailbox.take(&mut a, ticket) else {
-        panic!(rt; "not taken")
-    };
-    assert!(rt;
-        matches!(
-            mailbox.next_message(&rt, &mut a, &mut turn),
-            Some(Note { number: 1 })
-        )
-    );
-    assert!(rt; matches!(mailbox.close(&mut b), Closed::Elsewhere));
-    assert!(rt;
-        matches!(
-            mailbox.next_message(&rt, &mut a, &mut turn),
-            Some(Note { number: 2 })
-        )
-    );
-    assert!(rt;
-        matches!(
-            mailbox.release(&mut a, turn),
-            Released::Dropped(Tally { total: 5 })
-        )
-    );
     Ok(())
 }

@@ -1,4 +1,4 @@
-use crate::carriage::Carriage;
+use crate::contents::Contents;
 use crate::tests::{Note, Tally};
 use crate::{Hand, Mailbox, MessagePass, Station, Ticket};
 use rs_mailcore::{Fsm, Named};
@@ -56,29 +56,10 @@ fn cross<'p>(mailbox: &Mailbox<Machine<'p>>, station: Station<Machine<'p>>) {
 
 #[test]
 fn seats_have_no_bytes(rt: HostRuntime) -> Result<(), Fail> {
-    assert!(rt; size_of::<Hand<Carriage<Machine>>>() == 0);
+    assert!(rt; size_of::<Hand<Contents<Machine>>>() == 0);
     assert!(rt; size_of::<MessagePass<Mail>>() == 0);
     assert!(rt; size_of::<Station<Machine>>() == 8);
     assert!(rt; size_of::<Ticket>() == 4);
     assert!(rt; size_of::<Mailbox<Tally>>() <= 96);
-    Ok(())
-}
-
-#[test]
-fn a_mailbox_of_a_machine_that_borrows_crosses_threads(rt: HostRuntime) -> Result<(), Fail> {
-    let plan = Plan {
-        stores: Vec::new(rt.alloc()),
-    };
-    let machine = Machine {
-        plan: &plan,
-        applied: 0,
-    };
-    let Ok((mailbox, mut stations)) = Mailbox::new(rt.alloc(), 0, machine, 1) else {
-        panic!(rt; "no memory")
-    };
-    let Some(station) = stations.pop() else {
-        panic!(rt; "no station")
-    };
-    cross(&mailbox, station);
     Ok(())
 }

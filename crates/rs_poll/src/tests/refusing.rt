@@ -2,9 +2,9 @@ use crate::Poller;
 use crate::tests::counting::Counting;
 use crate::tests::{machines, next_desks, next_pass, tell};
 use rs_base::OpenGate;
-use rs_key::NoMemory;
 use rs_mailbox::Ticket;
 use rs_router::{QueueScheduler, Refused, RouteError, Router, Scheduler, SchedulerPass, Tickets};
+use rs_rows::NoMemory;
 use std::sync::Wait;
 use std::sync::atomic::AtomicU64;
 use std::test::Fail;
@@ -66,29 +66,6 @@ impl Scheduler for Stingy {
     fn wake(&self) {
         self.inner.wake();
     }
-}
-
-#[test]
-fn a_message_whose_ticket_is_refused_closes_its_mailbox(rt: HostRuntime) -> Result<(), Fail> {
-    let alloc = rt.alloc();
-    let machines = machines(alloc, 1)?;
-    let (inner, mut passes) = QueueScheduler::new(alloc, 1, 1)?;
-    let Some(pass) = next_pass(&inner, &mut passes) else {
-        panic!(rt; "no pass")
-    };
-    let mut pass = StingyPass {
-        inner: pass,
-        left: 0,
-    };
-    let (router, mut rows) = Router::new(alloc, machines, Stingy { inner }, 1)?;
-    let Some(mut desks) = next_desks(&router, &mut rows) else {
-        panic!(rt; "no desks")
-    };
-    let refused = tell(&rt, &router, &mut desks, &mut pass, 0, 3);
-    assert!(rt; matches!(refused, Err(RouteError::NoMemory(None))));
-    let closed = tell(&rt, &router, &mut desks, &mut pass, 0, 4);
-    assert!(rt; matches!(closed, Err(RouteError::Closed(_))));
-    Ok(())
 }
 
 #[test]

@@ -1,6 +1,6 @@
 use Rattle.std.proofs.Common.{refl}
 use Rattle.rs_text.specs.Outcomes.{outcome_text}
-use Rattle.rs_outcome.specs.Outcomes.{outcome_of}
+use Rattle.rs_history.specs.Outcomes.{outcome_of}
 use Rattle.rs_entry.specs.declared.input.Input.{Input}
 use Rattle.raftreplay.specs.declared.words.Command.TheVariants as commands
 use Rattle.raftreplay.proofs.Obeying.{lawful_obeyed}

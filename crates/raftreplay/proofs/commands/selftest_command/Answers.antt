@@ -1,4 +1,4 @@
-use Rattle.rs_outcome.specs.Outcomes.{outcome_of}
+use Rattle.rs_history.specs.Outcomes.{outcome_of}
 use Rattle.rs_gen.specs.Inputs.{made_of}
 use Rattle.raftreplay.specs.Expected.{counts_text}
 use Rattle.raftreplay.proofs.commands.selftest_command.Goals as goal

@@ -1,5 +1,5 @@
 use Rattle.std.proofs.Common.{rules, ◌≡◌, Some, ap}
-use Rattle.rs_map.specs.Maps.{items_at}
+use Rattle.rs_msg.specs.Maps.{items_at}
 use Rattle.rs_apply.specs.Findings.{boot_of}
 use Rattle.rs_apply.proofs.Opens.{held_at_start}
 use Rattle.rs_apply.proofs.births.opened.Goals as goal

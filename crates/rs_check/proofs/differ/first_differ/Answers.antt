@@ -1,6 +1,6 @@
 use Rattle.std.proofs.Common.{rules, ◌≡◌, ◌∙◌, ap, ◌<◌, length, refl, sym, subst, arith}
 use Rattle.std.specs.Prelude.{Some, None, slice_get}
-use Rattle.rs_order.specs.Places.{Places, with_place, known}
+use Rattle.rs_store.specs.Places.{Places, with_place, known}
 use Rattle.rs_check.specs.Statements.{Stated, at_place, pair_of}
 use Rattle.rs_check.proofs.DifferSteps.{Placed, placed_below, slice_here, places_put, places_kept, far_new, far_same, far_differs}
 use Rattle.rs_check.proofs.differ.first_differ.Goals as goal

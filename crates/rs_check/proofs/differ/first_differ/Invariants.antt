@@ -1,5 +1,5 @@
 use Rattle.std.proofs.Common.{◌≡◌, [], take, drop}
-use Rattle.rs_order.specs.Places.{known}
+use Rattle.rs_store.specs.Places.{known}
 use Rattle.rs_check.specs.Statements.{first_differ}
 use Rattle.rs_check.proofs.DifferSteps.{Placed}
 use Rattle.rs_check.proofs.differ.first_differ.Given as goal

@@ -2,7 +2,7 @@ use Rattle.std.proofs.Common.{◌<◌, ◌+◌, ◌∙◌, ap, length, drop, ◌
 use Rattle.std.specs.List.{flat_map}
 use Rattle.rs_entry.specs.declared.input.Boot.{Boot}
 use Rattle.rs_check.specs.Laws.{least, overlaps_of}
-use Rattle.rs_order.proofs.Folds.{fold_flat}
+use Rattle.rs_store.proofs.Folds.{fold_flat}
 use Rattle.rs_check.proofs.LawSteps.{least_more}
 use Rattle.rs_check.proofs.overlap.first_overlap.Goals as goal
 

@@ -1,5 +1,5 @@
 use Rattle.std.proofs.Common.{◌<◌, ◌∙◌, length, take, get_or, ◌∷◌, []}
-use Rattle.rs_order.specs.Runs.{seen}
+use Rattle.rs_store.specs.Runs.{seen}
 use Rattle.rs_check.specs.Plans.{rows_in}
 use Rattle.rs_check.proofs.PlanLaws.{rows_more, added}
 use Rattle.rs_check.proofs.rows.add_rows.Goals as goal

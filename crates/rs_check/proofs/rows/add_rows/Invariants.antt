@@ -1,5 +1,5 @@
 use Rattle.std.proofs.Common.{◌≡◌, ◌++◌, take}
-use Rattle.rs_order.specs.Runs.{seen}
+use Rattle.rs_store.specs.Runs.{seen}
 use Rattle.rs_check.specs.Plans.{rows_in}
 use Rattle.rs_check.proofs.rows.add_rows.Given as goal
 

@@ -2,7 +2,7 @@ use Rattle.std.proofs.Common.{sym, subst, List}
 use Rattle.rs_entry.specs.declared.input.Input.{Input}
 use Rattle.rs_entry.specs.declared.input.Store.{Store}
 use Rattle.rs_entry.specs.WellFormed.{WellFormed}
-use Rattle.rs_order.specs.Formed.{IsFormedStores}
+use Rattle.rs_store.specs.Formed.{IsFormedStores}
 use Rattle.rs_fold.proofs.Lawful.{formed_stores}
 use Rattle.rs_fold.proofs.folding.fold.Goals as goal
 

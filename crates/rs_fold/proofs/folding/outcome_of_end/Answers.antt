@@ -1,9 +1,9 @@
 use Rattle.std.proofs.Common.{◌≡◌, ◌∙◌, ap}
-use Rattle.rs_order.specs.Runs.{seen}
-use Rattle.rs_order.specs.Stores.{ids_of}
-use Rattle.rs_outcome.specs.Histories.{histories_of}
-use Rattle.rs_outcome.specs.Outcomes.{lines_in, removed_in, shown}
-use Rattle.rs_outcome.proofs.SameOutcomes.{outcome_made}
+use Rattle.rs_store.specs.Runs.{seen}
+use Rattle.rs_store.specs.Stores.{ids_of}
+use Rattle.rs_history.specs.Histories.{histories_of}
+use Rattle.rs_history.specs.Outcomes.{lines_in, removed_in, shown}
+use Rattle.rs_history.proofs.SameOutcomes.{outcome_made}
 use Rattle.rs_fold.proofs.folding.outcome_of_end.Goals as goal
 
 pub returns : goal.returns

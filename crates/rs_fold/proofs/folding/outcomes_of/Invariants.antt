@@ -1,5 +1,5 @@
 use Rattle.std.proofs.Common.{◌≡◌, map, take}
-use Rattle.rs_outcome.specs.Outcomes.{store_outcome}
+use Rattle.rs_history.specs.Outcomes.{store_outcome}
 use Rattle.rs_fold.proofs.folding.outcomes_of.Given as goal
 
 abbrev pub invariant-loop-store : goal.invariant-loop-store

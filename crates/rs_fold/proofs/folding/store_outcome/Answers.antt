@@ -1,7 +1,7 @@
 use Rattle.std.proofs.Common.{◌≡◌, sym, subst}
 use Rattle.std.specs.Prelude.{IfOk}
 use Rattle.rs_entry.specs.declared.outcome.StoreOutcome.{StoreOutcome}
-use Rattle.rs_order.specs.Runs.{seen}
+use Rattle.rs_store.specs.Runs.{seen}
 use Rattle.rs_fold.proofs.EndLaws.{outcome_is}
 use Rattle.rs_fold.proofs.folding.store_outcome.Goals as goal
 

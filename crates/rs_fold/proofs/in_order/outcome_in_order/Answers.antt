@@ -1,8 +1,8 @@
 use Rattle.std.proofs.Common.{◌≡◌, sym, subst}
 use Rattle.rs_entry.specs.declared.outcome.StoreOutcome.{StoreOutcome}
-use Rattle.rs_order.specs.Runs.{seen}
+use Rattle.rs_store.specs.Runs.{seen}
 use Rattle.rs_fold.specs.Ordered.{Gave, in_order_of}
-use Rattle.rs_outcome.specs.Outcomes.{store_outcome}
+use Rattle.rs_history.specs.Outcomes.{store_outcome}
 use Rattle.rs_fold.proofs.OrderSteps.{order_gives}
 use Rattle.rs_fold.proofs.in_order.outcome_in_order.Goals as goal
 

@@ -4,13 +4,13 @@ use Rattle.std.proofs.lemmas.List.{length-take-le}
 use Rattle.std.proofs.Math.Seq.{take-length}
 use Rattle.rs_entry.specs.declared.input.Store.{Store}
 use Rattle.rs_entry.specs.declared.outcome.ReplyLine.{ReplyLine}
-use Rattle.rs_order.specs.declared.walk.Advance.{Advance}
-use Rattle.rs_order.specs.Runs.{bare}
-use Rattle.rs_order.specs.Stores.{ByRegion, Went, Broke, Wrote, entries_in, is_ready, least_ready, opening, replied, step}
-use Rattle.rs_order.specs.Walks.{Goes, IsOneOn, Keeps, gained, made_by, store_of}
-use Rattle.rs_value.specs.Orders.{follow}
+use Rattle.rs_store.specs.declared.walk.Advance.{Advance}
+use Rattle.rs_store.specs.Runs.{bare}
+use Rattle.rs_store.specs.Stores.{ByRegion, Went, Broke, Wrote, entries_in, is_ready, least_ready, opening, replied, step}
+use Rattle.rs_store.specs.Walks.{Goes, IsOneOn, Keeps, gained, made_by, store_of}
+use Rattle.rs_part.specs.Orders.{follow}
 use Rattle.rs_fold.specs.Ordered.{EndsSo}
-use Rattle.rs_outcome.specs.Outcomes.{reply_line}
+use Rattle.rs_history.specs.Outcomes.{reply_line}
 use Rattle.rs_fold.proofs.OrderSteps.{few_steps, goes_at, order_unfinished, region_at, room_at, stops_at, whole_at}
 use Rattle.rs_fold.proofs.in_order.run_in_order.Goals as goal
 

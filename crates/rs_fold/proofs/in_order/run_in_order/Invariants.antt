@@ -1,7 +1,7 @@
 use Rattle.std.proofs.Common.{◌≡◌, take}
-use Rattle.rs_order.specs.Stores.{opening}
-use Rattle.rs_order.specs.Walks.{IsWalk, made_by, store_of, taken}
-use Rattle.rs_value.specs.Orders.{follow}
+use Rattle.rs_store.specs.Stores.{opening}
+use Rattle.rs_store.specs.Walks.{IsWalk, made_by, store_of, taken}
+use Rattle.rs_part.specs.Orders.{follow}
 use Rattle.rs_fold.specs.Ordered.{EndsSo}
 use Rattle.rs_fold.proofs.in_order.run_in_order.Given as goal
 

@@ -3,7 +3,7 @@ use Rattle.std.specs.List.{find}
 use Rattle.std.specs.Option.{option_copied, option_map}
 use Rattle.rs_key.specs.Keys.{same_bytes}
 use Rattle.rs_entry.specs.declared.outcome.KeyHistory.{KeyHistory}
-use Rattle.rs_outcome.specs.Outcomes.{history_at}
+use Rattle.rs_history.specs.Outcomes.{history_at}
 use Rattle.rs_fold.proofs.lookup.items_on.Goals as goal
 
 pub returns-in-Some : goal.returns-in-Some

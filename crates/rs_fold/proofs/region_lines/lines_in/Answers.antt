@@ -1,6 +1,6 @@
 use Rattle.std.proofs.Common.{◌∙◌, sym, ap, ◌++◌, ◌∷◌, []}
-use Rattle.rs_order.specs.Runs.{seen}
-use Rattle.rs_outcome.specs.Outcomes.{region_line}
+use Rattle.rs_store.specs.Runs.{seen}
+use Rattle.rs_history.specs.Outcomes.{region_line}
 use Rattle.rs_fold.proofs.MadeLists.{none_more, some_more}
 use Rattle.rs_fold.proofs.region_lines.lines_in.Goals as goal
 

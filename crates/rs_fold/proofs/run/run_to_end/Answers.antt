@@ -2,12 +2,12 @@ use Rattle.std.proofs.Common.{◌≡◌, ◌∙◌, sym, ap, subst, ℕ, suc, �
 use Rattle.std.specs.Prelude.{None, option_to_list}
 use Rattle.rs_entry.specs.declared.input.Store.{Store}
 use Rattle.rs_entry.specs.declared.outcome.ReplyLine.{ReplyLine}
-use Rattle.rs_order.specs.declared.walk.Advance.{Advance}
-use Rattle.rs_order.specs.Runs.{bare}
-use Rattle.rs_order.specs.Stores.{ByRegion, Wrote, Went, Broke, after, last, least_ready, advance, entries_in, wrote, replied}
-use Rattle.rs_order.specs.Walks.{Leads, Keeps, IsOneOn, made_by, store_of, gained}
+use Rattle.rs_store.specs.declared.walk.Advance.{Advance}
+use Rattle.rs_store.specs.Runs.{bare}
+use Rattle.rs_store.specs.Stores.{ByRegion, Wrote, Went, Broke, after, last, least_ready, advance, entries_in, wrote, replied}
+use Rattle.rs_store.specs.Walks.{Leads, Keeps, IsOneOn, made_by, store_of, gained}
 use Rattle.rs_fold.specs.Ends.{WentSo}
-use Rattle.rs_outcome.specs.Outcomes.{reply_line}
+use Rattle.rs_history.specs.Outcomes.{reply_line}
 use Rattle.rs_fold.proofs.EndLaws.{went_on, went_last, never_breaks}
 use Rattle.rs_fold.proofs.run.run_to_end.Goals as goal
 

@@ -1,6 +1,6 @@
 use Rattle.std.proofs.Common.{◌≡◌}
-use Rattle.rs_order.specs.Stores.{after}
-use Rattle.rs_order.specs.Walks.{IsWalk, made_by, store_of, taken}
+use Rattle.rs_store.specs.Stores.{after}
+use Rattle.rs_store.specs.Walks.{IsWalk, made_by, store_of, taken}
 use Rattle.rs_fold.specs.Ends.{WentSo}
 use Rattle.rs_fold.proofs.run.run_to_end.Given as goal
 

@@ -1,7 +1,7 @@
 use Rattle.std.proofs.Common.{◌∙◌, ap, sym, subst, All, map}
 use Rattle.std.specs.Prelude.{slice_get}
 use Rattle.std.specs.Option.{option_map}
-use Rattle.rs_outcome.specs.Histories.{histories_of}
+use Rattle.rs_history.specs.Histories.{histories_of}
 use Rattle.rs_table.specs.Views.{place_of}
 use Rattle.rs_meta.specs.Readings.{IsEndingOn, line_of}
 use Rattle.rs_meta.proofs.FinalStates.{endings_on}

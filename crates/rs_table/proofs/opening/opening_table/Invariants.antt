@@ -1,5 +1,5 @@
 use Rattle.std.proofs.Common.{◌≡◌, take}
-use Rattle.rs_value.specs.Telling.{boot_states}
+use Rattle.rs_part.specs.Telling.{boot_states}
 use Rattle.rs_table.proofs.opening.opening_table.Given as goal
 
 abbrev pub invariant-loop-boot : goal.invariant-loop-boot

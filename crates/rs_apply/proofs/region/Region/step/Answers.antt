@@ -1,5 +1,5 @@
 use Rattle.std.proofs.Common.{sym, ◌∙◌, ap, subst, ◌+◌, ◌++◌}
-use Rattle.rs_order.specs.Runs.{line_entry}
+use Rattle.rs_store.specs.Runs.{line_entry}
 use Rattle.rs_check.specs.Values.{reshaped_by}
 use Rattle.rs_apply.specs.Births.{AddsBirths, made_in}
 use Rattle.rs_apply.specs.Merges.{IsWithout, merge_in, merge_results, unheld}

@@ -1,5 +1,5 @@
 use Rattle.std.proofs.Common.{sym, ◌∙◌, ap}
-use Rattle.rs_order.specs.Runs.{line_entry}
+use Rattle.rs_store.specs.Runs.{line_entry}
 use Rattle.rs_apply.specs.Merges.{unheld, merge_in}
 use Rattle.rs_apply.proofs.Reading.{waits_here}
 use Rattle.rs_apply.proofs.region.Region.waits.Goals as goal

@@ -2,7 +2,7 @@ use Rattle.std.proofs.Common.{◌≡◌, subst}
 use Rattle.std.specs.Prelude.{Some}
 use Rattle.std.proofs.lemmas.Option.{IfSome_then}
 use Rattle.rs_entry.specs.declared.input.Input.{Input}
-use Rattle.rs_order.specs.Runs.{line_entry}
+use Rattle.rs_store.specs.Runs.{line_entry}
 use Rattle.rs_check.specs.Lines.{line_at}
 use Rattle.rs_check.proofs.HomeLines.{line_home}
 use Rattle.rs_check.proofs.plan.Plan.entry_near.Goals as goal

@@ -4,7 +4,7 @@ use Rattle.rs_mailbox.proofs.Steps.{shuttings}
 use Rattle.rs_mailbox.proofs.handover.Handover.close.Goals as goal
 
 pub swap-found-requires : goal.swap-found-requires
-swap-found-requires g c = (search rules, search rules, shuttings g.T.Named.name g.T.Lodger.count c.args.self.now.table.shared.key _ _ _ c.requires.calm)
+swap-found-requires g c = (search rules, search rules, shuttings g.T.Named.name g.T.HasCount.count c.args.self.now.table.shared.key _ _ _ c.requires.calm)
 
 pub exchange-requires : goal.exchange-requires
 exchange-requires g c = let t = (c.swap-found.ensures.2.0 c.if-found-eq-DROPPED.false c.if-found-eq-HELD.false).1 in

@@ -9,5 +9,5 @@ pub split_seat-seat-requires : goal.split_seat-seat-requires
 split_seat-seat-requires g c = let r = c.requires.first in let v = c.args.first.now.me.0 in (
   r.0.0.0,
   search rules,
-  subst (λ n. Splits (IsOrderly g.T.Named.name g.T.Lodger.count c.args.self.now.table.shared.key) n v (with_more v) (newest v)) (sym r.1) (splits g.T.Named.name g.T.Lodger.count c.args.self.now.table.shared.key v r.0.0.2 r.0.0.3 r.2),
+  subst (λ n. Splits (IsOrderly g.T.Named.name g.T.HasCount.count c.args.self.now.table.shared.key) n v (with_more v) (newest v)) (sym r.1) (splits g.T.Named.name g.T.HasCount.count c.args.self.now.table.shared.key v r.0.0.2 r.0.0.3 r.2),
 )

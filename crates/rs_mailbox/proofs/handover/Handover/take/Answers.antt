@@ -4,7 +4,7 @@ use Rattle.rs_mailbox.proofs.Steps.{takings}
 use Rattle.rs_mailbox.proofs.handover.Handover.take.Goals as goal
 
 pub compare_exchange-found-requires : goal.compare_exchange-found-requires
-compare_exchange-found-requires g c = (search rules, search rules, takings g.T.Named.name g.T.Lodger.count c.args.self.now.table.shared.key _ _ _ c.requires.calm)
+compare_exchange-found-requires g c = (search rules, search rules, takings g.T.Named.name g.T.HasCount.count c.args.self.now.table.shared.key _ _ _ c.requires.calm)
 
 pub exchange-requires : goal.exchange-requires
 exchange-requires g c = let t = c.compare_exchange-found.ensures.2.0 c.if-found-ne-NOTIFIED.false in

@@ -1,5 +1,5 @@
 use Rattle.std.proofs.Common.{◌≡◌}
-use Rattle.rs_mailcore.specs.declared.stances.Phase.TheVariants.{Calm}
+use Rattle.rs_mailcore.specs.declared.thread.Phase.TheVariants.{Calm}
 use Rattle.rs_mailbox.specs.Hands.{IsHandOf}
 use Rattle.rs_mailbox.specs.declared.tests.handovers.Parcel.{Parcel}
 use Rattle.rs_mailbox.proofs.tests.handovers.work.Given as goal

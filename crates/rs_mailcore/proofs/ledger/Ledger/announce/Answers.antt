@@ -1,5 +1,5 @@
 use Rattle.std.proofs.Common.{rules}
-use Rattle.rs_mailcore.specs.declared.moves.Step.TheVariants.{Announce}
+use Rattle.rs_mailcore.specs.declared.step.Step.TheVariants.{Announce}
 use Rattle.rs_mailcore.specs.Keeping.{moment}
 use Rattle.rs_mailcore.proofs.Kept.{kept, announced_small}
 use Rattle.rs_mailcore.proofs.ledger.Ledger.announce.Goals as goal

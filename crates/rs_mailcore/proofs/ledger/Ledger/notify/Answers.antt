@@ -1,6 +1,6 @@
 use Rattle.std.proofs.Common.{◌∙◌, sym, ap, eq-eqb, ne_eqb}
-use Rattle.rs_mailcore.specs.declared.moves.Step.TheVariants.{Notify}
-use Rattle.rs_mailcore.specs.declared.stances.Phase.TheVariants.{Calm}
+use Rattle.rs_mailcore.specs.declared.step.Step.TheVariants.{Notify}
+use Rattle.rs_mailcore.specs.declared.thread.Phase.TheVariants.{Calm}
 use Rattle.rs_mailcore.specs.Moment.{pick, goes}
 use Rattle.rs_mailcore.specs.Keeping.{moment}
 use Rattle.rs_mailcore.proofs.Kept.{kept}

@@ -1,5 +1,5 @@
 use Rattle.std.proofs.Common.{rules}
-use Rattle.rs_mailcore.specs.declared.moves.Step.TheVariants.{Pop}
+use Rattle.rs_mailcore.specs.declared.step.Step.TheVariants.{Pop}
 use Rattle.rs_mailcore.specs.Keeping.{moment}
 use Rattle.rs_mailcore.proofs.Kept.{kept, handled_small, front_sender, pops}
 use Rattle.rs_mailcore.proofs.ledger.Ledger.pop.Goals as goal

@@ -1,5 +1,5 @@
 use Rattle.std.proofs.Common.{◌+◌, slice_set, ap, ◌∙◌}
-use Rattle.rs_mailcore.specs.declared.moves.Step.TheVariants.{Push}
+use Rattle.rs_mailcore.specs.declared.step.Step.TheVariants.{Push}
 use Rattle.rs_mailcore.specs.Keeping.{moment}
 use Rattle.rs_mailcore.proofs.Kept.{kept}
 use Rattle.rs_mailcore.proofs.ledger.Ledger.push.Goals as goal

@@ -1,6 +1,6 @@
 use Rattle.std.proofs.Common.{leb}
-use Rattle.rs_mailcore.specs.declared.moves.Step.TheVariants.{Recheck}
-use Rattle.rs_mailcore.specs.declared.stances.Phase.TheVariants.{Calm}
+use Rattle.rs_mailcore.specs.declared.step.Step.TheVariants.{Recheck}
+use Rattle.rs_mailcore.specs.declared.thread.Phase.TheVariants.{Calm}
 use Rattle.rs_mailcore.specs.Moment.{goes}
 use Rattle.rs_mailcore.specs.Keeping.{moment}
 use Rattle.rs_mailcore.proofs.Steps.{leb_yes}

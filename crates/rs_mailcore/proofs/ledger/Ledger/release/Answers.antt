@@ -1,7 +1,7 @@
 use Rattle.std.proofs.Common.{◌==◌, eq-eqb, ne_eqb}
-use Rattle.rs_mailcore.specs.declared.moves.Step.TheVariants.{Release}
-use Rattle.rs_mailcore.specs.declared.letters.Place.TheVariants.{Home}
-use Rattle.rs_mailcore.specs.declared.stances.Phase.TheVariants.{Releasing}
+use Rattle.rs_mailcore.specs.declared.step.Step.TheVariants.{Release}
+use Rattle.rs_mailcore.specs.declared.letter.Place.TheVariants.{Home}
+use Rattle.rs_mailcore.specs.declared.thread.Phase.TheVariants.{Releasing}
 use Rattle.rs_mailcore.specs.Moment.{goes, hands_out}
 use Rattle.rs_mailcore.specs.Keeping.{moment}
 use Rattle.rs_mailcore.proofs.Kept.{kept, if_yes, if_no}

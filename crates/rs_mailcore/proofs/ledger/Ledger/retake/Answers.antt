@@ -1,7 +1,7 @@
 use Rattle.std.proofs.Common.{◌==◌, eq-eqb, ne_eqb}
-use Rattle.rs_mailcore.specs.declared.moves.Step.TheVariants.{Retake}
-use Rattle.rs_mailcore.specs.declared.letters.Place.TheVariants.{With}
-use Rattle.rs_mailcore.specs.declared.stances.Phase.TheVariants.{Calm, Holding}
+use Rattle.rs_mailcore.specs.declared.step.Step.TheVariants.{Retake}
+use Rattle.rs_mailcore.specs.declared.letter.Place.TheVariants.{With}
+use Rattle.rs_mailcore.specs.declared.thread.Phase.TheVariants.{Calm, Holding}
 use Rattle.rs_mailcore.specs.Moment.{goes}
 use Rattle.rs_mailcore.specs.Keeping.{moment}
 use Rattle.rs_mailcore.proofs.Kept.{kept, if_yes, if_no}

@@ -1,6 +1,6 @@
 use Rattle.std.proofs.Common.{rules, ◌≡◌, ◌<◌, length, slice_index_or, sym, subst}
-use Rattle.rs_mailcore.specs.declared.stances.Thread.{Thread}
-use Rattle.rs_mailcore.specs.declared.stances.Phase.TheVariants.{Calm}
+use Rattle.rs_mailcore.specs.declared.thread.Thread.{Thread}
+use Rattle.rs_mailcore.specs.declared.thread.Phase.TheVariants.{Calm}
 use mathlib.Core.Option.{some}
 use lib.ListN.{get_elem?}
 use Rattle.rs_mailcore.proofs.Kept.{at_below, at_index}

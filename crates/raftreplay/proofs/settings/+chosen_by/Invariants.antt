@@ -1,5 +1,0 @@
-use Rattle.std.proofs.Common.{length}
-use Rattle.raftreplay.proofs.settings.+chosen_by.Given as goal
-
-abbrev pub decreases-chosen_by : goal.decreases-chosen_by
-decreases-chosen_by l = length l.words.now

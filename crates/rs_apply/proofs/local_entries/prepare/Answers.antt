@@ -1,0 +1,10 @@
+use Rattle.rs_store.specs.Runs.{line_entry}
+use Rattle.rs_apply.proofs.Accepting.{prepares}
+use Rattle.rs_apply.proofs.local_entries.prepare.Goals as goal
+
+pub returns : goal.returns
+returns c =
+    let next = c.args.next in
+    let r = c.requires in
+    prepares next.plan.now r.laws next.address next.index (line_entry next.line) next.entry c.args.state.now c.args.map.now r.held r.accept c.args.target c.exec_prepare.new.self r.body
+    c.exec_prepare.ensures

@@ -1,5 +1,0 @@
-use Rattle.std.proofs.Common.{◌≡◌}
-use Rattle.rs_engine.proofs.own_thread.OwnThread.tell_each.Given as goal
-
-abbrev pub invariant-loop-address : goal.invariant-loop-address
-invariant-loop-address g l = l.self.plan ≡ l.initial.self.plan

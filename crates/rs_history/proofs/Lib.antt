@@ -1,0 +1,11 @@
+pub mod Ascending
+pub mod CodeOrder
+pub mod HistoryLaws
+pub mod KeyOrder
+pub mod RepliesById
+pub mod ReplyLaws
+pub mod RunLaws
+pub mod SameOutcomes
+pub mod ShownHistories
+pub mod ShownLaws
+pub mod SortedWrites

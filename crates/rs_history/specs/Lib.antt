@@ -1,0 +1,6 @@
+pub mod Histories
+pub mod KeyCodes
+pub mod Outcomes
+pub mod Replies
+pub mod Runs
+pub mod Writes

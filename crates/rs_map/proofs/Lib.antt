@@ -1,7 +1,0 @@
-pub mod Cuts
-pub mod Cutting
-pub mod Keys
-pub mod Noting
-pub mod Parted
-pub mod Results
-pub mod Splitting

@@ -1,9 +1,0 @@
-use rs_key::Key;
-use rs_writes::Writes;
-
-/// What was written of the keys from the start on, as far as they are below the next part's.
-#[derive(Drop)]
-pub struct Part<'p> {
-    pub start: Key,
-    pub writes: Writes<'p>,
-}

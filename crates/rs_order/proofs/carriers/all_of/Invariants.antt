@@ -1,7 +1,0 @@
-use Rattle.std.proofs.Common.{◌≡◌, take}
-use Rattle.rs_order.specs.Runs.{seen, bare}
-use Rattle.rs_order.specs.Carriers.{carriers, standing_for}
-use Rattle.rs_order.proofs.carriers.all_of.Given as goal
-
-abbrev pub invariant-loop-id : goal.invariant-loop-id
-invariant-loop-id l = carriers l.all ≡ standing_for l.indexed (bare (seen l.regions)) (take l.id-index l.ids)

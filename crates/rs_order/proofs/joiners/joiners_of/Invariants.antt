@@ -1,7 +1,0 @@
-use Rattle.std.proofs.Common.{◌≡◌, take}
-use Rattle.std.specs.Prelude.{filter}
-use Rattle.rs_order.specs.Joiners.{has_commit}
-use Rattle.rs_order.proofs.joiners.joiners_of.Given as goal
-
-abbrev pub invariant-loop-id : goal.invariant-loop-id
-invariant-loop-id l = l.joiners.items ≡ filter (has_commit l.store) (take l.id-index l.ids)

@@ -1,6 +1,0 @@
-use Rattle.std.proofs.Common.{◌≡◌, take}
-use Rattle.rs_outcome.specs.Histories.{pairs_of}
-use Rattle.rs_outcome.proofs.pairs.pairs_of.Given as goal
-
-abbrev pub invariant-loop-history : goal.invariant-loop-history
-invariant-loop-history l = l.pairs ≡ pairs_of (take l.history-index l.history-items)

@@ -1,5 +1,0 @@
-use Rattle.rs_writes.proofs.CodeOrder.{Makes}
-use Rattle.rs_writes.proofs.key_code.digits_of.Given as goal
-
-abbrev pub invariant-loop-place : goal.invariant-loop-place
-invariant-loop-place l = Makes 15 l.key l.place l.number

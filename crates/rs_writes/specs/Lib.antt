@@ -1,3 +1,0 @@
-pub mod KeyCodes
-pub mod Runs
-pub mod Writes
