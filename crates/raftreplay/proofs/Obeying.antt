@@ -7,7 +7,7 @@ use Rattle.raftreplay.specs.declared.status.Status.{Status}
 use Rattle.raftreplay.specs.declared.status.Status.TheVariants as status
 use Rattle.raftreplay.specs.declared.words.Command.{Command}
 use Rattle.raftreplay.specs.Statuses.{IsWritten, IsSilent, IsRefusal, IsUnread}
-use Rattle.raftreplay.specs.Expected.{Answer, reading_of, answer_of, answered, on_logs, done, reads}
+use Rattle.raftreplay.specs.Expected.{Answer, Reading, answer_of, answered, done, reads}
 use Rattle.raftreplay.specs.Kept.{KeepsTo, IsExpected, IsStopped, Wrote, Read, Obeyed}
 
 -- ---- commands that read nothing
@@ -44,14 +44,14 @@ stopped_keeps one other given old new (inl e) k = subst (λ g. KeepsTo other g o
 stopped_keeps one other given old new (inr e) k = subst (λ g. KeepsTo other g old new) (sym e) (subst (λ g. KeepsTo one g old new) e k)
 
 module _ {S K : Type 0} (left : S → Option (List ℕ)) (read_faults : S → ℕ) (taken : K → Option (List ℕ)) (write_faults : K → ℕ)
-    (c : Command) (text : Input → List ℕ) (is_row : (bytes : List ℕ) → answer_of c bytes ≡ on_logs text bytes) (is_read : reads c ≡ true)
+    (c : Command) (reading : List ℕ → Reading) (text : Input → List ℕ) (is_row : (bytes : List ℕ) → answer_of c bytes ≡ answered text (reading bytes)) (is_read : reads c ≡ true)
     (given : Status) (source source_after : S) (sink sink_after : K) where
-  -- the logs are lawful, and their text was written
-  pub lawful_obeyed : (x : Input) → Read left read_faults (Ok x) source source_after → IsUnread given
+  -- logs were given, and their text was written
+  pub given_obeyed : (x : Input) → Read left read_faults reading (Ok x) source source_after → IsUnread given
       → Wrote taken write_faults (done (text x)) given sink sink_after
       → Obeyed left read_faults taken write_faults c given source source_after sink sink_after
-  lawful_obeyed x did own wrote =
-      let answer : (bytes : List ℕ) → reading_of bytes ≡ Ok x → done (text x) ≡ answer_of c bytes = λ bytes e. sym (is_row bytes ∙ ap (answered text) e) in
+  given_obeyed x did own wrote =
+      let answer : (bytes : List ℕ) → reading bytes ≡ Ok x → done (text x) ≡ answer_of c bytes = λ bytes e. sym (is_row bytes ∙ ap (answered text) e) in
       record {
         kept = rw is_read (for_some (left source) (λ bytes e. subst (λ a. KeepsTo a given (taken sink) (taken sink_after)) (answer bytes e) wrote.kept) did.logs);
         silent = wrote.silent;
@@ -66,7 +66,7 @@ module _ {S K : Type 0} (left : S → Option (List ℕ)) (read_faults : S → �
       }
 
   -- an answer refused them, and was written
-  pub refused_obeyed : (answer : Answer) → Read left read_faults (Err answer) source source_after
+  pub refused_obeyed : (answer : Answer) → Read left read_faults reading (Err answer) source source_after
       → (given ≡ answer.status) ⊎ (given ≡ status.WriteFault) → (IsSilent answer.status → given ≡ answer.status)
       → Wrote taken write_faults answer given sink sink_after
       → Obeyed left read_faults taken write_faults c given source source_after sink sink_after
@@ -82,7 +82,7 @@ module _ {S K : Type 0} (left : S → Option (List ℕ)) (read_faults : S → �
     kept_read_faults = did.kept_faults;
     kept_write_faults = wrote.kept_faults;
   } where
-    answers : (bytes : List ℕ) → reading_of bytes ≡ Err answer → answer ≡ answer_of c bytes
+    answers : (bytes : List ℕ) → reading bytes ≡ Err answer → answer ≡ answer_of c bytes
     answers bytes e = sym (is_row bytes ∙ ap (answered text) e)
 
     -- a refusal without a text is given as it is
@@ -90,7 +90,7 @@ module _ {S K : Type 0} (left : S → Option (List ℕ)) (read_faults : S → �
     stays (inl e) = inl (quiet (subst IsSilent (sym e) tt) ∙ e)
     stays (inr e) = inr (quiet (subst IsSilent (sym e) tt) ∙ e)
 
-    keeps : (bytes : List ℕ) → (reading_of bytes ≡ Err answer) ⊎ IsStopped answer → KeepsTo (answer_of c bytes) given (taken sink) (taken sink_after)
+    keeps : (bytes : List ℕ) → (reading bytes ≡ Err answer) ⊎ IsStopped answer → KeepsTo (answer_of c bytes) given (taken sink) (taken sink_after)
     keeps bytes (inl e) = subst (λ a. KeepsTo a given (taken sink) (taken sink_after)) (answers bytes e) wrote.kept
     keeps bytes (inr stopped) = stopped_keeps answer (answer_of c bytes) given (taken sink) (taken sink_after) (stays stopped.1) wrote.kept
 
@@ -112,6 +112,6 @@ module _ {S K : Type 0} (left : S → Option (List ℕ)) (read_faults : S → �
     unless bytes well (inr e) = inr (quiet (subst IsSilent (sym e) tt) ∙ e)
 
     expected : ¬ Rose (read_faults source) (read_faults source_after) → ¬ Rose (write_faults sink) (write_faults sink_after)
-        → (bytes : List ℕ) → (reading_of bytes ≡ Err answer) ⊎ IsStopped answer → IsExpected (answer_of c bytes) given
+        → (bytes : List ℕ) → (reading bytes ≡ Err answer) ⊎ IsStopped answer → IsExpected (answer_of c bytes) given
     expected well_read well_written bytes (inl e) = subst (λ a. IsExpected a given) (answers bytes e) (wrote.complete well_written)
     expected well_read well_written bytes (inr stopped) = unless bytes well_read stopped.1

@@ -10,6 +10,8 @@ use Rattle.rs_text.specs.FaultTexts.{syntax_text, fault_text}
 use Rattle.rs_check.specs.Laws.{check}
 use Rattle.rs_check.specs.Plans.{rows_of, stop_of}
 use Rattle.rs_text.specs.Logs.{text_of}
+use Rattle.rs_bin.specs.Forms.{form_of}
+use Rattle.rs_bin.specs.Reading.{read_form}
 use Rattle.rs_text.specs.Outcomes.{outcome_text, history_text}
 use Rattle.rs_history.specs.Outcomes.{outcome_of}
 use Rattle.rs_gen.specs.Inputs.{made_of}
@@ -69,32 +71,56 @@ counts_text n outcome = line_text (word "selftest" ∷ number n ∷ word "equal"
 
 -- ---- on the bytes that a command reads
 
--- lawful logs, or the answer that refuses them
+-- logs, or the answer that refuses them
 abbrev pub Reading : Type 0
 Reading = Result Input Answer
+
+-- of more bytes than the limit nothing is written
+abbrev pub too_long : Answer
+too_long = record { status = status.TooLong; text = [] }
+
+-- on what reading a text gives: its logs, or its first fault
+abbrev pub of_text : Result Input Fault → Reading
+of_text (Ok x) = Ok x
+of_text (Err fault) = Err (record { status = status.Syntax; text = syntax_text fault.0 fault.1 })
+
+-- on bytes that are to be a log text
+unfoldable pub text_reading : List ℕ → Reading
+text_reading bytes = if nat_lt limit (length bytes) then Err too_long else of_text (read_text bytes)
 
 -- on what the check of logs gives: the first fault, or none
 abbrev pub checked : Input → Option LawFault → Reading
 checked x (Some fault) = Err (record { status = status.Unlawful; text = fault_text fault })
 checked x None = Ok x
 
--- on what reading a text gives: its logs, or its first fault
-abbrev pub read : Result Input Fault → Reading
-read (Ok x) = checked x (check x)
-read (Err fault) = Err (record { status = status.Syntax; text = syntax_text fault.0 fault.1 })
+-- on what reading gives: lawful logs, or the answer that refuses them
+abbrev pub lawful : Reading → Reading
+lawful (Ok x) = checked x (check x)
+lawful (Err refusal) = Err refusal
 
--- on bytes
+-- on bytes that are to be the text of lawful logs
 unfoldable pub reading_of : List ℕ → Reading
-reading_of bytes =
-    if nat_lt limit (length bytes) then Err (record { status = status.TooLong; text = [] })
-    else read (read_text bytes)
+reading_of bytes = lawful (text_reading bytes)
+
+-- `binary OFFSET`
+abbrev pub offset_text : ℕ → List ℕ
+offset_text offset = line_text (word "binary" ∷ number offset ∷ [])
+
+-- on what reading a binary file gives: its logs, or the offset of its first fault
+abbrev pub of_binary : Result Input ℕ → Reading
+of_binary (Ok x) = Ok x
+of_binary (Err offset) = Err (record { status = status.Syntax; text = offset_text offset })
+
+-- on bytes that are to be a binary file
+unfoldable pub binary_reading : List ℕ → Reading
+binary_reading bytes = if nat_lt limit (length bytes) then Err too_long else of_binary (read_form bytes)
 
 -- ---- answers
 
 abbrev pub done : List ℕ → Answer
 done text = record { status = status.Done; text = text }
 
--- the text for lawful logs, or the answer that refuses them
+-- the text for the logs, or the answer that refuses them
 abbrev pub answered : (Input → List ℕ) → Reading → Answer
 answered text (Ok x) = done (text x)
 answered text (Err refusal) = refusal
@@ -110,6 +136,8 @@ answer_of (commands.History key) bytes = on_logs (λ x. history_text (outcome_of
 answer_of (commands.Run options) bytes = on_logs (λ x. outcome_text (outcome_of x)) bytes
 answer_of (commands.Gen n) bytes = done (text_of (made_of n))
 answer_of (commands.SelfTest n options) bytes = done (counts_text n (outcome_of (made_of n)))
+answer_of commands.Pack bytes = answered form_of (text_reading bytes)
+answer_of commands.Unpack bytes = answered text_of (binary_reading bytes)
 
 -- ---- on words and bytes
 
@@ -131,6 +159,8 @@ reads (commands.History key) = true
 reads (commands.Run options) = true
 reads (commands.Gen n) = false
 reads (commands.SelfTest n options) = false
+reads commands.Pack = true
+reads commands.Unpack = true
 
 -- words that are no command read nothing
 abbrev pub reads_any : Option Command → Bool

@@ -1,12 +1,12 @@
 -- How a command keeps to the answer that is expected of it.
-use Rattle.std.specs.Prelude.{◌≡◌, ℕ, ◌≤◌, true, false, List, [], ◌++◌, ◌⊎◌, Option, Some, IfSome, Ok, Err}
+use Rattle.std.specs.Prelude.{◌≡◌, ℕ, ◌<◌, ◌≤◌, true, false, List, [], ◌++◌, length, ◌⊎◌, Option, Some, IfSome, Ok, Err}
 use Rattle.std.specs.Io.KnownBytes.{Appends, Keeps}
 use Rattle.rs_base.specs.Counts.{Rose}
 use Rattle.raftreplay.specs.declared.status.Status.{Status}
 use Rattle.raftreplay.specs.declared.status.Status.TheVariants as status
 use Rattle.raftreplay.specs.declared.words.Command.{Command}
 use Rattle.raftreplay.specs.Statuses.{IsWritten, IsSilent, IsRefusal}
-use Rattle.raftreplay.specs.Expected.{Answer, Reading, reading_of, answer_of, reads, bytes_for}
+use Rattle.raftreplay.specs.Expected.{Answer, Reading, limit, too_long, answer_of, reads, bytes_for}
 
 -- the sink took a front of the text, where it tells what it took
 abbrev pub TookFront : Option (List ℕ) → Option (List ℕ) → List ℕ → Type 0
@@ -46,7 +46,11 @@ pub record Wrote {K : Type 0} (taken : K → Option (List ℕ)) (faults : K → 
 abbrev pub IsStopped : Answer → Type 0
 IsStopped answer = (answer.text ≡ []) × ((answer.status ≡ status.ReadFault) ⊎ (answer.status ≡ status.NoMemory))
 
--- lawful logs are those of the bytes; a refusal is theirs too, unless a read failed or memory ran out
+-- more bytes than the limit are refused
+abbrev pub RefusesLong : (List ℕ → Reading) → Type 0
+RefusesLong reading = (bytes : List ℕ) → limit < length bytes → reading bytes ≡ Err too_long
+
+-- logs are those of the bytes; a refusal is theirs too, unless a read failed or memory ran out
 abbrev pub IsOf : Reading → Reading → Type 0
 IsOf expected (Ok x) = expected ≡ Ok x
 IsOf expected (Err answer) = (expected ≡ Err answer) ⊎ IsStopped answer
@@ -56,12 +60,12 @@ abbrev pub IsWhole : Reading → Type 0
 IsWhole (Ok x) = Unit {0}
 IsWhole (Err answer) = IsWritten answer.status
 
--- lawful logs, or a refusal as a command gives one
+-- logs, or a refusal as a command gives one
 abbrev pub IsGiven : Reading → Type 0
 IsGiven (Ok x) = Unit {0}
 IsGiven (Err answer) = IsRefusal answer.status × (IsSilent answer.status → answer.text ≡ [])
 
--- lawful logs, or a refusal that has a text
+-- logs, or a refusal that has a text
 abbrev pub IsTold : Reading → Type 0
 IsTold (Ok x) = Unit {0}
 IsTold (Err answer) = (answer.status ≡ status.Syntax) ⊎ (answer.status ≡ status.Unlawful)
@@ -71,10 +75,10 @@ abbrev pub IsReadFault : Reading → Type 0
 IsReadFault (Ok x) = ⊥
 IsReadFault (Err answer) = answer.status ≡ status.ReadFault
 
--- Logs were to be read, this was given, and the source went from one value to the other. A source tells the
--- bytes left, and a count of faults.
-pub record Read {S : Type 0} (left : S → Option (List ℕ)) (faults : S → ℕ) (given : Reading) (source source_after : S) : Type 0 where
-  pub logs : IfSome (left source) (λ bytes. IsOf (reading_of bytes) given)
+-- Logs were to be read from bytes in some way, this was given, and the source went from one value to the other.
+-- A source tells the bytes left, and a count of faults.
+pub record Read {S : Type 0} (left : S → Option (List ℕ)) (faults : S → ℕ) (reading : List ℕ → Reading) (given : Reading) (source source_after : S) : Type 0 where
+  pub logs : IfSome (left source) (λ bytes. IsOf (reading bytes) given)
   pub refusal : IsGiven given
   pub to_end : IsWhole given → IfSome (left source) (λ _. left source_after ≡ Some [])
   pub read_fault : IsReadFault given → Rose (faults source) (faults source_after)

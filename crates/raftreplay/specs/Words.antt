@@ -60,6 +60,8 @@ command_named name words =
     else if bytes_eq name (codes "run") then with_options words
     else if bytes_eq name (codes "gen") then with_number words
     else if bytes_eq name (codes "selftest") then with_number_and_options words
+    else if bytes_eq name (codes "pack") then alone commands.Pack words
+    else if bytes_eq name (codes "unpack") then alone commands.Unpack words
     else None
 
 -- the command that the words are, if they are any

@@ -11,11 +11,12 @@ ghost use Rattle.raftreplay.specs.Words.{command_of, bytes_of};
 
 use crate::answer::finish;
 use crate::check_text::write_lawful;
-use crate::reading::lawful_logs;
+use crate::reading::{binary_logs, lawful_logs, text_logs};
 use crate::selftest_text::write_counts;
 use crate::status::Status;
 use crate::words::{Command, command_of};
 use rs_base::{Gate, Sink, Source};
+use rs_bin::write_binary;
 use rs_check::{CheckError, Plan, check};
 use rs_engine::{Options, run};
 use rs_fold::fold;
@@ -169,6 +170,28 @@ fn self_tested<R: Threads + Wait + Sync, G: Gate>(
     write_counts(alloc, n, &outcome)
 }
 
+/// Writes the binary form of the logs that the source gives as a text. It doesn't check them.
+#[tactic(auto, using(crate::proofs::Obeying::refused_obeyed))]
+pub fn pack_command<S: Source, K: Sink>(alloc: Global, source: &mut S, sink: &mut K) -> Status
+    ensures { Obeyed S.left S.faults K.taken K.faults Command.Pack result source.old source.new sink.old sink.new }
+{
+    match text_logs(alloc, source) {
+        Ok(input) => finish(alloc, write_binary(alloc, &input), sink),
+        Err(refusal) => refusal.write(sink),
+    }
+}
+
+/// Writes the canonical text of the logs that the source gives as a binary file. It doesn't check them.
+#[tactic(auto, using(crate::proofs::Obeying::refused_obeyed))]
+pub fn unpack_command<S: Source, K: Sink>(alloc: Global, source: &mut S, sink: &mut K) -> Status
+    ensures { Obeyed S.left S.faults K.taken K.faults Command.Unpack result source.old source.new sink.old sink.new }
+{
+    match binary_logs(alloc, source) {
+        Ok(input) => finish(alloc, write_logs(alloc, &input), sink),
+        Err(refusal) => refusal.write(sink),
+    }
+}
+
 /// Does what a command says.
 #[tactic(auto, using(crate::proofs::Obeying::unread_obeyed))]
 fn obey<R: Threads + Wait + Sync, S: Source, K: Sink, G: Gate>(
@@ -188,6 +211,8 @@ fn obey<R: Threads + Wait + Sync, S: Source, K: Sink, G: Gate>(
         Command::Run(options) => run_command(rt, alloc, *options, source, sink, gate),
         Command::Gen(n) => gen_command(alloc, *n, sink),
         Command::SelfTest(n, options) => selftest_command(rt, alloc, *n, *options, sink, gate),
+        Command::Pack => pack_command(alloc, source, sink),
+        Command::Unpack => unpack_command(alloc, source, sink),
     }
 }
 

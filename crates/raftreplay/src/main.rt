@@ -17,8 +17,8 @@ mod tests;
 mod words;
 
 pub use commands::{
-    check_command, command, fold_command, gen_command, history_command, run_command,
-    selftest_command,
+    check_command, command, fold_command, gen_command, history_command, pack_command, run_command,
+    selftest_command, unpack_command,
 };
 use rs_base::OpenGate;
 pub use status::Status;

@@ -22,6 +22,10 @@ pub enum Command {
     Gen(u64),
     /// `selftest N` and options: a run on the logs that a number makes.
     SelfTest(u64, Options),
+    /// `pack`: the binary form of the logs.
+    Pack,
+    /// `unpack`: the text of the logs of a binary file.
+    Unpack,
 }
 
 /// The command that the words are. Words that are none of the forms are none, and then no memory is taken.
@@ -52,6 +56,10 @@ fn command_named(alloc: Global, name: &str, words: &[String]) -> Result<Option<C
         Ok(with_number(words))
     } else if name == "selftest" {
         Ok(with_number_and_options(words))
+    } else if name == "pack" {
+        Ok(alone(Command::Pack, words))
+    } else if name == "unpack" {
+        Ok(alone(Command::Unpack, words))
     } else {
         Ok(None)
     }
