@@ -208,13 +208,15 @@ class Reader:
             elif log is None:
                 raise self.bad("an entry without a log: %s" % short(fields[0]))
             else:
-                log.append(self.entry(fields))
+                log.append(self.entry(fields, FIRST_INDEX + len(log)))
 
-    def entry(self, fields):
-        """The entry of a line, with the carried entries in the lines behind it."""
+    def entry(self, fields, wanted):
+        """The entry of a line at an index, with the carried entries in the lines behind it."""
         if len(fields) < 4:
             raise self.bad("an entry has an index, two numbers and a body")
         index, conf_ver, version = (self.number(text) for text in fields[:3])
+        if index != wanted:
+            raise self.bad("the index %d should be %d" % (index, wanted))
         return Entry(index, conf_ver, version, self.body(fields[3], fields[4:]))
 
     def body(self, word, rest):
@@ -233,14 +235,14 @@ class Reader:
             return Peers(word, self.number(rest[0]))
         if word == "commit" and len(rest) == 3:
             source, commit, count = (self.number(text) for text in rest)
-            return Commit(source, commit, tuple(self.carried() for _ in range(count)))
+            return Commit(source, commit, tuple(self.carried(commit - count + 1 + place) for place in range(count)))
         raise self.bad("not the body of an entry: %s" % short(" ".join([word] + rest)))
 
-    def carried(self):
+    def carried(self, wanted):
         fields = [part for part in self.fields() if part]
         if not fields or fields[0] != "carry":
             raise self.bad("a `carry` line should stand here")
-        return self.entry(fields[1:])
+        return self.entry(fields[1:], wanted)
 
     def operations(self, words):
         """The operations of a write."""

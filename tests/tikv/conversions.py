@@ -158,9 +158,30 @@ def test_merges(harness):
         harness.judge("%s, as asked" % name, convert(harness, lines, "--partial", start=start)[0], 0)
 
 
+def test_ends(harness):
+    """A region that isn't there at the end was merged or removed; what lies behind isn't committed there."""
+    harness.write("end.json", states(info(7, b"b", b"p", commit=102)))
+    lines = merge_lines() + [protobuf.line(1, 8, 304, 0, b"")]
+    status, out, errors = convert(harness, lines, "--end", "1=end.json", start=two_regions())
+    harness.judge("a region that was merged", (status, out.count("\n8 1 1 prepare 7\n"), "1: not committed" in errors), (
+        0, 1, True))
+    status, out, errors = convert(harness, [], "--end", "1=end.json", start=two_regions())
+    reason = "left out: region 8 of store 1: it isn't in the store's --end, and nothing in the dump ends it"
+    harness.judge("a region that nothing ends", (status, "region 8" in out, reason in errors), (3, False, True))
+    lines = [conf(101, [(REMOVE, (71, 1))]), normal(102, b"", (6, 9))]
+    answer = convert(harness, lines)
+    harness.judge("a removed region", entries_of(answer), (0, ["6 1 1 remove 1"]))
+    harness.judge("what lies behind is counted", "1: behind the removal" in answer[2], True)
+    lines = [conf(101, [(REMOVE, (73, 3, LEARNER)), (REMOVE, (71, 1))])]
+    harness.judge("a joint removal of a voter is refused", convert(harness, lines)[0], 0)
+    merging = states(info(7, b"b", b"m", state="Merging"))
+    harness.judge("a region that is merging at the start", convert(harness, [], start=merging)[0], 3)
+
+
 def test(harness):
     test_kinds(harness)
     test_epochs(harness)
     test_options(harness)
     test_text_form(harness)
     test_merges(harness)
+    test_ends(harness)

@@ -14,6 +14,7 @@ class Harness:
     def __init__(self, program, folder):
         self.program = program
         self.folder = folder
+        self.written = {}
         self.passed = 0
         self.failed = 0
 
@@ -28,9 +29,12 @@ class Harness:
         print("  got    %s" % repr(got)[:1500])
 
     def write(self, name, content):
-        """Writes a file into the folder, as text or as bytes."""
-        with open(os.path.join(self.folder, name), "wb") as file:
-            file.write(content.encode("ascii") if isinstance(content, str) else content)
+        """Writes a file into the folder, as text or as bytes, unless it was written so before."""
+        content = content.encode("ascii") if isinstance(content, str) else content
+        if self.written.get(name) != content:
+            self.written[name] = content
+            with open(os.path.join(self.folder, name), "wb") as file:
+                file.write(content)
 
     def tool(self, name, *words):
         """The status, standard output and standard error of a tool that is called in the folder.

@@ -38,6 +38,8 @@ def entries():
     yield "a write in a conf change", [raw(protobuf.conf_change(0, 1, good), kind=1)], "in an entry of type EntryConfChange"
     yield "an index with a gap", [normal(101, GOOD), normal(103, GOOD)], "small.entries:2: store 1 region 7: index 103 after 101"
     yield "a gap behind the start", [normal(102, GOOD)], "its entries begin at 102: a gap"
+    twice = protobuf.old_split((b"g", 7, [1, 2, 3]), True)
+    yield "a new region that is there", [normal(101, twice)], "index 101: the new region 7 is there already"
     yield "a region without a start", [normal(101, GOOD, region=9)], "region 9 of store 1 isn't in the --start"
     yield "a store without a start", [normal(101, GOOD, store=2)], "small.entries:1: store 2 has no --start"
     yield "a short line", ["1 7 101"], "small.entries:1: a line has STORE REGION INDEX TYPE DATA"
@@ -91,7 +93,11 @@ def test_trace(harness):
     harness.write("fold", "syntax 1 BadHeader\n")
     harness.refusal("trace of a refused log", harness.tool("trace.py", "7", "log", "fold"), "fold:1: the program refuses")
     harness.write("fold", FOLD)
-    for name, line, part in (("a body", "6 1 1 what", "log:5: not the body"), ("no number", "6 1 x empty", "log:5: ")):
+    for name, line, part in (
+        ("a body", "6 1 1 what", "log:5: not the body"),
+        ("no number", "6 1 x empty", "log:5: "),
+        ("an index", "5 1 1 empty", "log:5: the index 5 should be 6"),
+    ):
         harness.write("log", LOG.replace("6 1 1 write put 63 31", line))
         harness.refusal("trace: %s" % name, harness.tool("trace.py", "7", "log", "fold"), part)
     harness.write("log", LOG.replace("end\n", ""))
