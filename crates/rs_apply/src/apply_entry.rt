@@ -11,17 +11,16 @@ ghost use Rattle.rs_apply.specs.Births.{AddsBirths, made_in};
 ghost use Rattle.rs_apply.specs.Merges.{merge_in, merge_results, unheld, IsWithout};
 ghost use Rattle.rs_apply.specs.Steps.{IsNext};
 
+use crate::local_entries::{conf, prepare, refuse, roll_back, write};
 use crate::merge::merge;
 use crate::next::Next;
 use crate::split::split;
-use crate::local_entries::{conf, prepare, refuse, roll_back, write};
 use rs_check::Line;
 use rs_entry::{Body, CarriedBody, Reply};
 use rs_key::NoMemory;
-use rs_msg::Map;
-use rs_msg::{Closed, Outbox};
-use rs_store::is_accept;
+use rs_msg::{Closed, Map, Outbox};
 use rs_region::{RegionState, Verdict};
+use rs_store::is_accept;
 
 /// Applies the entry, and sends what it makes. Where it commits a merge the source must have handed over.
 pub fn change<'p>(

@@ -14,8 +14,7 @@ use crate::region::Region;
 use rs_check::Plan;
 use rs_entry::{Boot, Store};
 use rs_key::{NoMemory, TryClone};
-use rs_msg::Map;
-use rs_msg::Piece;
+use rs_msg::{Map, Piece};
 use rs_region::RegionState;
 use std::alloc::Global;
 

@@ -16,8 +16,7 @@ use crate::region::Region;
 use rs_check::Plan;
 use rs_entry::{Mode, ReplyLine};
 use rs_key::{NoMemory, Rows, TryClone};
-use rs_msg::Map;
-use rs_msg::{ApplyMsg, Closed, Ending, Outbox, StoreMsg};
+use rs_msg::{ApplyMsg, Closed, Ending, Map, Outbox, StoreMsg};
 use rs_region::RegionState;
 
 /// Sends what the region leaves, and gives the merges that it has committed.

@@ -7,8 +7,8 @@ ghost use Rattle.rs_apply.specs.Handling.{ends_by, is_for, is_merged_into, is_ne
 ghost use Rattle.rs_apply.specs.Machines.{IsTied};
 
 use crate::catch_up::has_merge;
-use crate::sources::has_closed;
 use crate::progress::Life;
+use crate::sources::has_closed;
 use rs_check::Plan;
 use rs_entry::Mode;
 use rs_msg::Closed;

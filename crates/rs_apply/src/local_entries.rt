@@ -14,8 +14,8 @@ use crate::next::Next;
 use rs_entry::{Change, Op, Reply};
 use rs_key::{NoMemory, Rows};
 use rs_msg::Map;
-use rs_store::refusal;
 use rs_region::{RegionState, Verdict};
+use rs_store::refusal;
 
 /// Answers an entry that isn't accepted, which changes nothing.
 pub fn refuse(

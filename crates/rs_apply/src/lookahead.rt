@@ -11,8 +11,8 @@ use crate::sources::has_closed;
 use rs_check::{Line, Plan};
 use rs_entry::{Body, CarriedBody};
 use rs_msg::Closed;
-use rs_store::is_accept;
 use rs_region::Verdict;
+use rs_store::is_accept;
 
 /// The source of the merge that the entry commits, and the index of its prepare.
 pub fn merge_in(verdict: Verdict, line: Line<'_>) -> Option<(u64, u64)>

@@ -13,12 +13,11 @@ ghost use Rattle.rs_msg.specs.Held.{IsHeld};
 ghost use Rattle.rs_apply.specs.Merges.{unheld, IsWithout, merge_results};
 ghost use Rattle.rs_apply.specs.Steps.{IsNext};
 
-use crate::sources::take_closed;
 use crate::next::Next;
+use crate::sources::take_closed;
 use rs_entry::{Carried, Reply};
 use rs_key::{Key, NoMemory, Range, Rows, TryClone};
-use rs_msg::Map;
-use rs_msg::{Closed, PeerMsg};
+use rs_msg::{Closed, Map, PeerMsg};
 use rs_region::RegionState;
 use std::mem;
 

@@ -16,10 +16,9 @@ use crate::records::{note_merge, note_reply, tell_reshaping};
 use rs_check::{Line, Plan};
 use rs_entry::ReplyLine;
 use rs_key::{NoMemory, Rows};
-use rs_msg::Map;
-use rs_msg::{Closed, Outbox};
-use rs_store::verdict_of;
+use rs_msg::{Closed, Map, Outbox};
 use rs_region::RegionState;
+use rs_store::verdict_of;
 use std::alloc::Global;
 
 /// A region that was made, as it is after an index.

@@ -12,8 +12,7 @@ ghost use Rattle.rs_apply.specs.Steps.{IsNext};
 use crate::next::Next;
 use rs_entry::{Reply, Side};
 use rs_key::{Key, NoMemory, Rows};
-use rs_msg::Map;
-use rs_msg::{ApplyMsg, Piece};
+use rs_msg::{ApplyMsg, Map, Piece};
 use rs_region::RegionState;
 use std::mem;
 

@@ -18,5 +18,5 @@ mod statements;
 
 pub use log_check::{CheckError, check};
 pub use plan::{Maker, Plan};
-pub use rs_store::Line;
 pub use region_table::RegionTable;
+pub use rs_store::Line;

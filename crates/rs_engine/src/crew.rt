@@ -1,22 +1,22 @@
 ghost use Rattle.std.specs.Prelude.{◌≡◌, ◌≤◌, ◌<◌, ◌+◌, ◌^◌, All, IfOk, OnOk, length};
 ghost use Rattle.rs_handlers.specs.Outs.{FitsControl};
 
-use crate::options::Options;
-use crate::main_thread::MainThread;
-use crate::outcomes::Taking;
 use crate::deliveries::Telling;
+use crate::main_thread::MainThread;
+use crate::options::Options;
+use crate::outcomes::Taking;
 use crate::workers::{ApplyPoller, ApplyWorker, ControlPoller, PeerPoller, PeerWorker};
 use rs_apply::ApplyFsm;
 use rs_check::Plan;
+use rs_handlers::{
+    ApplyHandler, ControlHandler, ControlOut, Deliveries, Gathered, Machine, PeerHandler, Seat,
+};
 use rs_key::NoMemory;
 use rs_mailcore::{Fsm, Named};
 use rs_meta::StoreFsm;
 use rs_msg::Outbox;
 use rs_peer::PeerFsm;
 use rs_poll::{More, Poller, Stop};
-use rs_handlers::{
-    ApplyHandler, ControlHandler, ControlOut, Deliveries, Gathered, Machine, PeerHandler, Seat,
-};
 use std::alloc::Global;
 
 /// The seats at a run's machines that no worker has yet.

@@ -3,9 +3,9 @@ ghost use Rattle.rs_check.specs.Values.{count_of};
 ghost use Rattle.rs_poll.specs.Handing.{all_known};
 ghost use Rattle.rs_engine.specs.Telling.{TellsNext};
 
+use rs_handlers::{Deliveries, Seat};
 use rs_key::NoMemory;
 use rs_peer::PeerFsm;
-use rs_handlers::{Deliveries, Seat};
 use std::sync::Wait;
 
 /// By which the main thread tells the peer machines of their logs.

@@ -6,9 +6,9 @@
 
 mod crew;
 mod deliveries;
+mod main_thread;
 mod options;
 mod outcomes;
-mod main_thread;
 mod routers;
 mod run_plan;
 mod workers;

@@ -3,10 +3,10 @@ ghost use Rattle.rs_history.specs.Outcomes.{outcome_of};
 ghost use Rattle.rs_handlers.specs.Stores.{AreThere};
 
 use rs_entry::Outcome;
+use rs_handlers::{Gathered, Seat};
 use rs_key::NoMemory;
 use rs_mailbox::Closed;
 use rs_meta::StoreFsm;
-use rs_handlers::{Gathered, Seat};
 use std::alloc::Global;
 use std::sync::Wait;
 

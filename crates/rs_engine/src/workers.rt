@@ -5,12 +5,12 @@ use crate::routers::Routers;
 use once_cell::race::OnceBox;
 use rs_apply::ApplyFsm;
 use rs_base::Gate;
+use rs_handlers::{ApplyHandler, ControlHandler, PeerHandler};
 use rs_key::NoMemory;
 use rs_mailcore::{Fsm, Named};
 use rs_meta::StoreFsm;
 use rs_peer::PeerFsm;
 use rs_poll::{Handler, Poller, Stop, Worked};
-use rs_handlers::{ApplyHandler, ControlHandler, PeerHandler};
 use rs_router::QueueScheduler;
 use std::sync::Wait;
 

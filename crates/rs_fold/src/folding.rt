@@ -10,8 +10,8 @@ use crate::replies::by_region;
 use crate::run::{End, run_to_end};
 use rs_check::Plan;
 use rs_entry::{Outcome, Store, StoreOutcome};
-use rs_key::{NoMemory, Rows};
 use rs_history::pairs_of;
+use rs_key::{NoMemory, Rows};
 use std::alloc::Global;
 
 /// What comes of a plan: on each store the end of its canonical order.

@@ -13,8 +13,8 @@ use crate::folding::outcome_of_end;
 use crate::run::{End, record_reply};
 use rs_check::Plan;
 use rs_entry::{Store, StoreOutcome};
-use rs_store::{Advance, Walk};
 use rs_history::Writes;
+use rs_store::{Advance, Walk};
 use std::alloc::Global;
 
 /// What comes of one store, the one with this id, when its regions take their entries in the order of these ids.

@@ -6,9 +6,9 @@ ghost use Rattle.rs_history.specs.Outcomes.{reply_line};
 ghost use Rattle.rs_fold.specs.Ends.{IsLawful, WentSo};
 
 use rs_entry::{Reply, ReplyLine, Store};
+use rs_history::Writes;
 use rs_key::NoMemory;
 use rs_store::{Advance, Arrived, Effect, Walk};
-use rs_history::Writes;
 use std::alloc::{AllocError, Global};
 
 /// A store at the end of its canonical order.

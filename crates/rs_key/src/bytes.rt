@@ -1,8 +1,7 @@
 ghost use Rattle.std.specs.Prelude.{◌≡◌, ◌<◌, ◌≤◌, [], length, take, IfOk, OnErr};
 
-use rs_rows::TryClone;
-use rs_rows::NoMemory;
 use crate::short::Short;
+use rs_rows::{NoMemory, TryClone};
 use std::alloc::Global;
 use std::marker::Model;
 

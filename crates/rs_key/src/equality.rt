@@ -5,8 +5,8 @@ ghost use Rattle.rs_key.specs.Epochs.{same_epochs};
 use crate::epoch::Epoch;
 use crate::key::Key;
 use crate::range::Range;
-use rs_rows::Same;
 use crate::value::Value;
+use rs_rows::Same;
 
 impl Same for Epoch {
     ghost equals = { same_epochs };

@@ -3,10 +3,8 @@ ghost use Rattle.rs_key.specs.Ranges.{is_range, holds, is_next_to, join, bad_cut
 ghost use Rattle.rs_key.specs.Cutting.{IsCauseOfCut};
 
 use crate::bounds::{is_below, is_from, is_past, is_range, is_to, meets};
-use rs_rows::TryClone;
 use crate::key::Key;
-use rs_rows::NoMemory;
-use rs_rows::Rows;
+use rs_rows::{NoMemory, Rows, TryClone};
 use std::alloc::Global;
 use std::marker::Model;
 use thiserror::Error;

@@ -4,9 +4,8 @@ ghost use Rattle.std.specs.Cmp.{partial_equiv_from_equiv};
 ghost use Rattle.rs_key.specs.Keys.{same_bytes};
 
 use crate::bytes::Bytes;
-use rs_rows::TryClone;
 use crate::key::KeyError;
-use rs_rows::NoMemory;
+use rs_rows::{NoMemory, TryClone};
 use std::alloc::Global;
 use std::marker::Model;
 

@@ -2,12 +2,12 @@ ghost use Rattle.std.specs.Prelude.{◌≡◌, ◌≢◌, ℕ, ◌+◌, ◌^◌,
 
 use crate::hand::Hand;
 use crate::held::Held;
-use crate::stored::{HasCount, Stored};
 use crate::plays;
+use crate::stored::{HasCount, Stored};
 use crate::view::View;
 use atomic_table::{Seat, Table};
-use rs_rows::{NoMemory, Rows};
 use rs_mailcore::Named;
+use rs_rows::{NoMemory, Rows};
 use std::alloc::Global;
 
 /// A value that threads hand to each other: it lies at home, or is out with one hand. The state word is 0 Notified,

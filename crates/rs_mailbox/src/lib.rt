@@ -20,14 +20,14 @@ mod trail;
 mod turn;
 mod view;
 
-pub use contents::{ContentsName, Contents, Reader};
+pub use contents::{Contents, ContentsName, Reader};
 pub use hand::Hand;
 pub use handover::{Back, Handover, Shut};
 pub use held::Held;
-pub use stored::{HasCount, Stored};
 pub use mailbox::Mailbox;
 pub use outcomes::{Closed, Dropped, Released, SendError, Taken};
 pub use station::Station;
+pub use stored::{HasCount, Stored};
 pub use ticket::Ticket;
 pub use trail::{MessagePass, MessageQueue, Trail};
 pub use turn::Turn;

@@ -10,8 +10,8 @@ use crate::station::Station;
 use crate::ticket::Ticket;
 use crate::trail::{MessagePass, MessageQueue};
 use crate::turn::Turn;
-use rs_rows::{NoMemory, Rows};
 use rs_mailcore::{Fsm, Named};
+use rs_rows::{NoMemory, Rows};
 use std::alloc::Global;
 use std::sync::Wait;
 

@@ -3,8 +3,8 @@ ghost use Rattle.rs_mailbox.specs.Passes.{IsReader, IsSender};
 
 use crate::trail::{MessagePass, MessageQueue, Trail};
 use crossbeam_queue::protocol::Split;
-use rs_rows::NoMemory;
 use rs_mailcore::{Fsm, Named};
+use rs_rows::NoMemory;
 use std::alloc::Global;
 use std::marker::{Brand, PhantomData};
 

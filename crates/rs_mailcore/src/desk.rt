@@ -8,8 +8,8 @@ ghost use Rattle.rs_mailcore.specs.Sitting.{is_home, Fronts, IsSeated};
 
 use crate::ledger::Ledger;
 use crate::letter::Letter;
-use crate::step::Step;
 use crate::named::Fsm;
+use crate::step::Step;
 use rs_rows::NoMemory;
 use std::alloc::Global;
 

@@ -13,13 +13,11 @@ ghost use Rattle.rs_meta.specs.Readings.{AreEndings, IsEndingOn, line_of, writes
 use crate::store_addresses::id_of;
 use rs_check::Plan;
 use rs_entry::{RegionLine, ReplyLine, StoreOutcome};
+use rs_history::{Writes, pairs_of};
 use rs_key::{NoMemory, Rows, TryClone};
-use rs_msg::Map;
-use rs_msg::Ending;
-use rs_history::pairs_of;
+use rs_msg::{Ending, Map};
 use rs_region::RegionState;
 use rs_table::StoreTable;
-use rs_history::Writes;
 use std::alloc::Global;
 
 /// What endings say beside their lines: all replies and the writes of their maps.

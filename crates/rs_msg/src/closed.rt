@@ -3,8 +3,8 @@ ghost use Rattle.rs_entry.specs.declared.outcome.Mode.TheVariants as mode;
 ghost use Rattle.rs_check.specs.Values.{count_of};
 ghost use Rattle.rs_msg.specs.Held.{IsHeld};
 
-use rs_check::Plan;
 use crate::map::Map;
+use rs_check::Plan;
 use rs_region::RegionState;
 
 /// A source that is merged away, as it is after its prepare: what it hands over to its target.

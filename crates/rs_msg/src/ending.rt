@@ -3,10 +3,10 @@ ghost use Rattle.std.specs.Option.{option_copied};
 ghost use Rattle.rs_check.specs.Values.{count_of};
 ghost use Rattle.rs_msg.specs.Held.{IsEnding};
 
+use crate::map::Map;
 use rs_check::Plan;
 use rs_entry::ReplyLine;
 use rs_key::Rows;
-use crate::map::Map;
 use rs_region::RegionState;
 
 /// What a region leaves at its stop: its state, all its replies and, unless it ends merged or removed, its map.

@@ -8,8 +8,8 @@ ghost use Rattle.rs_msg.specs.Maps.{AreApart, HasFront, HasItems, LiesBelow, Lie
 
 use crate::part::Part;
 use rs_entry::Op;
-use rs_key::{Key, NoMemory, Rows};
 use rs_history::{AcceptedWrite, Writes};
+use rs_key::{Key, NoMemory, Rows};
 use std::alloc::Global;
 use std::marker::Model;
 

@@ -1,5 +1,5 @@
-use rs_key::Key;
 use rs_history::Writes;
+use rs_key::Key;
 
 /// What was written of the keys from the start on, as far as they are below the next part's.
 #[derive(Drop)]

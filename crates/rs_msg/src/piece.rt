@@ -2,8 +2,8 @@ ghost use Rattle.std.specs.Prelude.{◌≡◌, ◌<◌};
 ghost use Rattle.rs_check.specs.Values.{count_of};
 ghost use Rattle.rs_msg.specs.Held.{IsHeld};
 
-use rs_check::Plan;
 use crate::map::Map;
+use rs_check::Plan;
 use rs_region::RegionState;
 
 /// A region that was just made: its state and its map before its first entry.

@@ -5,9 +5,9 @@ ghost use Rattle.rs_router.specs.Turns.{turn_steps};
 ghost use Rattle.rs_poll.specs.Counts.{RoseBy};
 ghost use Rattle.rs_poll.specs.Handing.{all_known};
 
-use rs_rows::NoMemory;
 use rs_mailcore::{Fsm, Named};
 use rs_router::{Desks, Router, Scheduler};
+use rs_rows::NoMemory;
 use std::sync::Wait;
 
 /// Whether the machine is to run again, though it has no message.

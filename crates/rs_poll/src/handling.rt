@@ -5,10 +5,10 @@ ghost use Rattle.rs_poll.specs.Counts.{RoseBy};
 
 use crate::handler::{Handler, More};
 use crate::worker::Worker;
-use rs_rows::NoMemory;
 use rs_mailbox::{Mailbox, Station, Turn};
 use rs_mailcore::{Fsm, Named};
 use rs_router::Scheduler;
+use rs_rows::NoMemory;
 use std::sync::Wait;
 
 fn handle_in<F: Fsm, S: Scheduler, H: Handler<F, S>>(

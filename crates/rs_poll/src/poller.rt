@@ -14,9 +14,9 @@ use crate::worked::Worked;
 use crate::worker::Worker;
 use once_cell::race::{Note, OnceBox};
 use rs_base::Gate;
-use rs_rows::NoMemory;
 use rs_mailcore::{Fsm, Named};
 use rs_router::{Desks, Router, Scheduler};
+use rs_rows::NoMemory;
 use std::sync::Wait;
 
 /// One worker, with its desks of a router.

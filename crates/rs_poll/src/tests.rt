@@ -8,9 +8,9 @@ mod routing;
 mod turns;
 mod workers;
 
-use rs_rows::{NoMemory, Rows};
 use rs_mailcore::{Fsm, Named};
 use rs_router::{Desks, QueueScheduler, RouteError, Router, Scheduler, SchedulerPass};
+use rs_rows::{NoMemory, Rows};
 use std::alloc::Global;
 use std::sync::Wait;
 

@@ -10,10 +10,10 @@ use crate::visits::visit;
 use crate::worked::{Visited, Worked};
 use crate::worker::Worker;
 use rs_base::Gate;
-use rs_rows::NoMemory;
 use rs_mailbox::Ticket;
 use rs_mailcore::{Fsm, Named};
 use rs_router::{Desks, Router, Scheduler};
+use rs_rows::NoMemory;
 use std::sync::Wait;
 
 // A visit to the mailbox of a ticket: of the desks, one station changes.

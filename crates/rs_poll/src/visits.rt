@@ -10,10 +10,10 @@ use crate::handling::work;
 use crate::worked::Visited;
 use crate::worker::Worker;
 use rs_base::Gate;
-use rs_rows::NoMemory;
 use rs_mailbox::{Mailbox, Released, Station, Taken, Ticket, Turn};
 use rs_mailcore::{Fsm, Named};
 use rs_router::{Refused, Scheduler, abandon};
+use rs_rows::NoMemory;
 use std::sync::Wait;
 
 // Has the machine run again.

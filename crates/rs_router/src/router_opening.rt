@@ -5,9 +5,9 @@ ghost use Rattle.rs_router.specs.Desks.{AllCalm, AllNamed, AreAddressed, AreDesk
 use crate::desks::Desks;
 use crate::router::Router;
 use crate::scheduler::Scheduler;
-use rs_rows::{NoMemory, Rows};
 use rs_mailbox::{Mailbox, Station};
 use rs_mailcore::{Fsm, Named};
+use rs_rows::{NoMemory, Rows};
 use std::alloc::Global;
 
 // Makes `workers` desks with no stations.

@@ -4,8 +4,8 @@ ghost use Rattle.rs_store.specs.Runs.{seen, bare};
 ghost use Rattle.rs_store.specs.Carriers.{carriers, no_carriers, with_carrier, standing_for, or_nil};
 
 use crate::indexed_store::IndexedStore;
-use crate::regions::Regions;
 use crate::readiness::stands;
+use crate::regions::Regions;
 use rs_key::{NoMemory, Rows};
 use std::alloc::Global;
 use std::collections::BTreeMap;

@@ -7,9 +7,9 @@ ghost use Rattle.rs_store.specs.Walks.{version_over, reply_before, Tells};
 
 use crate::carriers::Carriers;
 use crate::indexed_store::IndexedStore;
+use crate::readiness::{Line, is_accept, next};
 use crate::refusals::{ops_in, refusal};
 use crate::regions::{Made, Regions};
-use crate::readiness::{Line, is_accept, next};
 use crate::step::verdict_of;
 use rs_entry::{Body, CarriedBody, Op, Reply};
 use rs_key::{Epoch, NoMemory};

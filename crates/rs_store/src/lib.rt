@@ -25,12 +25,12 @@ mod survey;
 mod walk;
 
 pub use effect::Effect;
-pub use store_run::{StoreRun, run_store};
 pub use fault::{StepFault, StoreFault};
 pub use indexed_store::{IndexedStore, own};
 pub use place_map::PlaceMap;
+pub use readiness::{Line, find_carried, is_accept, own_next};
 pub use refusals::refusal;
 pub use regions::{Made, Origin, Regions};
-pub use readiness::{Line, find_carried, is_accept, own_next};
 pub use step::verdict_of;
+pub use store_run::{StoreRun, run_store};
 pub use walk::{Advance, Arrived, Walk};

@@ -9,8 +9,8 @@ ghost use Rattle.rs_store.specs.Ends.{first_of, waits, is_unborn, first_unborn, 
 use crate::counts::entries_in;
 use crate::fault::{StepFault, StoreFault};
 use crate::indexed_store::IndexedStore;
-use crate::regions::{Made, Regions};
 use crate::readiness::stands;
+use crate::regions::{Made, Regions};
 use crate::walk::Walk;
 use rs_entry::{Entry, Log, Store};
 use rs_key::NoMemory;

@@ -3,9 +3,9 @@ ghost use Rattle.rs_mailcore.specs.declared.thread.Phase.TheVariants.{Calm};
 ghost use Rattle.rs_mailbox.specs.Hands.{seen, IsHandOf, IsFresh, IsHeldBy};
 ghost use Rattle.rs_mailbox.specs.Making.{IsNewHand};
 
-use crate::{Back, Hand, Handover, Held, HasCount, Shut};
-use rs_rows::Rows;
+use crate::{Back, Hand, Handover, HasCount, Held, Shut};
 use rs_mailcore::Named;
+use rs_rows::Rows;
 use std::sync::Wait;
 use std::sync::atomic::{AtomicU64, Ordering};
 use std::test::Fail;

@@ -3,8 +3,8 @@ ghost use Rattle.rs_mailbox.specs.Stations.{IsNewStation};
 
 use crate::tests::{Note, Tally};
 use crate::{Closed, Mailbox, Released, SendError, Station, Taken};
-use rs_rows::Rows;
 use rs_mailcore::Named;
+use rs_rows::Rows;
 use std::test::Fail;
 
 pub fn next_station(

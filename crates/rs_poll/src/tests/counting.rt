@@ -2,8 +2,8 @@ ghost use Rattle.std.specs.Prelude.{◌≡◌};
 
 use crate::handler::{Handler, More};
 use crate::tests::{Note, Tally};
-use rs_rows::NoMemory;
 use rs_router::{Desks, Router, Scheduler};
+use rs_rows::NoMemory;
 use std::sync::Wait;
 use std::sync::atomic::{AtomicU64, Ordering};
 
