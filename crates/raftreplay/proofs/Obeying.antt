@@ -7,7 +7,8 @@ use Rattle.raftreplay.specs.declared.status.Status.{Status}
 use Rattle.raftreplay.specs.declared.status.Status.TheVariants as status
 use Rattle.raftreplay.specs.declared.words.Command.{Command}
 use Rattle.raftreplay.specs.Statuses.{IsWritten, IsSilent, IsRefusal, IsUnread}
-use Rattle.raftreplay.specs.Expected.{Answer, Reading, answer_of, answered, done, reads}
+use Rattle.raftreplay.specs.Words.{command_of}
+use Rattle.raftreplay.specs.Expected.{Answer, Reading, answer_of, answered, bytes_for, command_answer, done, expected, is_read, reads, reads_any}
 use Rattle.raftreplay.specs.Kept.{KeepsTo, IsExpected, IsStopped, Wrote, Read, Obeyed}
 
 -- ---- commands that read nothing
@@ -115,3 +116,11 @@ module _ {S K : Type 0} (left : S → Option (List ℕ)) (read_faults : S → �
         → (bytes : List ℕ) → (reading bytes ≡ Err answer) ⊎ IsStopped answer → IsExpected (answer_of c bytes) given
     expected well_read well_written bytes (inl e) = subst (λ a. IsExpected a given) (answers bytes e) (wrote.complete well_written)
     expected well_read well_written bytes (inr stopped) = unless bytes well_read stopped.1
+
+-- what holds of the command that the words are holds of the words
+pub kept_by_words : (words : List (List ℕ)) (command : Command) (found : Option Command) (left : Option (List ℕ)) (given : Status) (old new : Option (List ℕ))
+    → found ≡ Some command → found ≡ command_of words
+    → IfSome (bytes_for (reads command) left) (λ bytes. KeepsTo (answer_of command bytes) given old new)
+    → IfSome (bytes_for (is_read words) left) (λ bytes. KeepsTo (expected words bytes) given old new)
+kept_by_words words command found left given old new is told kept =
+    subst (λ (it : Option Command). IfSome (bytes_for (reads_any it) left) (λ bytes. KeepsTo (command_answer it bytes) given old new)) (sym is ∙ told) kept
