@@ -55,6 +55,7 @@ region_count outcome = sum_by (λ s. length s.regions) outcome.stores
 abbrev pub store_entries : StoreOutcome → ℕ
 store_entries store = sum_by (λ r. r.applied - 5) store.regions
 
+-- how many entries all stores applied
 abbrev pub entry_count : Outcome → ℕ
 entry_count outcome = sum_by store_entries outcome.stores
 
@@ -62,6 +63,7 @@ entry_count outcome = sum_by store_entries outcome.stores
 abbrev pub store_writes : StoreOutcome → ℕ
 store_writes store = sum_by (λ h. length h.items) store.histories
 
+-- how many writes all stores applied
 abbrev pub write_count : Outcome → ℕ
 write_count outcome = sum_by store_writes outcome.stores
 
@@ -75,30 +77,30 @@ counts_text n outcome = line_text (word "selftest" ∷ number n ∷ word "equal"
 abbrev pub Reading : Type 0
 Reading = Result Input Answer
 
--- of more bytes than the limit nothing is written
+-- the answer to more bytes than the limit: nothing is written
 abbrev pub too_long : Answer
 too_long = record { status = status.TooLong; text = [] }
 
--- on what reading a text gives: its logs, or its first fault
+-- the logs of a text, or the answer to its first fault
 abbrev pub of_text : Result Input Fault → Reading
 of_text (Ok x) = Ok x
 of_text (Err fault) = Err (record { status = status.Syntax; text = syntax_text fault.0 fault.1 })
 
--- on bytes that are to be a log text
+-- the logs of bytes that are read as a log text, or the answer that refuses them
 unfoldable pub text_reading : List ℕ → Reading
 text_reading bytes = if nat_lt limit (length bytes) then Err too_long else of_text (read_text bytes)
 
--- on what the check of logs gives: the first fault, or none
+-- the logs if their check found no fault, or the answer to its first fault
 abbrev pub checked : Input → Option LawFault → Reading
 checked x (Some fault) = Err (record { status = status.Unlawful; text = fault_text fault })
 checked x None = Ok x
 
--- on what reading gives: lawful logs, or the answer that refuses them
+-- the logs that were read if they are lawful, or the answer that refuses them
 abbrev pub lawful : Reading → Reading
 lawful (Ok x) = checked x (check x)
 lawful (Err refusal) = Err refusal
 
--- on bytes that are to be the text of lawful logs
+-- the lawful logs of bytes that are read as a log text, or the answer that refuses them
 unfoldable pub reading_of : List ℕ → Reading
 reading_of bytes = lawful (text_reading bytes)
 
@@ -106,17 +108,18 @@ reading_of bytes = lawful (text_reading bytes)
 abbrev pub offset_text : ℕ → List ℕ
 offset_text offset = line_text (word "binary" ∷ number offset ∷ [])
 
--- on what reading a binary file gives: its logs, or the offset of its first fault
+-- the logs of a binary file, or the answer with the offset of its first fault
 abbrev pub of_binary : Result Input ℕ → Reading
 of_binary (Ok x) = Ok x
 of_binary (Err offset) = Err (record { status = status.Syntax; text = offset_text offset })
 
--- on bytes that are to be a binary file
+-- the logs of bytes that are read as a binary file, or the answer that refuses them
 unfoldable pub binary_reading : List ℕ → Reading
 binary_reading bytes = if nat_lt limit (length bytes) then Err too_long else of_binary (read_form bytes)
 
 -- ---- answers
 
+-- the answer of a command that succeeded, with this text
 abbrev pub done : List ℕ → Answer
 done text = record { status = status.Done; text = text }
 
@@ -125,6 +128,7 @@ abbrev pub answered : (Input → List ℕ) → Reading → Answer
 answered text (Ok x) = done (text x)
 answered text (Err refusal) = refusal
 
+-- the answer to a log file: the text made of its input, or the fault of its bytes
 abbrev pub on_logs : (Input → List ℕ) → List ℕ → Answer
 on_logs text bytes = answered text (reading_of bytes)
 
@@ -141,11 +145,12 @@ answer_of commands.Unpack bytes = answered text_of (binary_reading bytes)
 
 -- ---- on words and bytes
 
+-- the answer of a command; words that are no command are answered by the usage
 abbrev pub command_answer : Option Command → List ℕ → Answer
 command_answer None bytes = record { status = status.Usage; text = [] }
 command_answer (Some c) bytes = answer_of c bytes
 
--- on words and bytes
+-- the answer that is expected on these words and these bytes
 abbrev pub expected : List (List ℕ) → List ℕ → Answer
 expected words bytes = command_answer (command_of words) bytes
 

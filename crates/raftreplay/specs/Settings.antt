@@ -14,6 +14,7 @@ abbrev pub number_in : Result ℕ TextKind → Option ℕ
 number_in (Ok n) = Some n
 number_in (Err kind) = None
 
+-- the number that a word spells in decimal, if it is one
 abbrev pub number_word : List ℕ → Option ℕ
 number_word word = number_in (number_of word)
 
@@ -54,18 +55,18 @@ abbrev pub once : Option ℕ → Chosen → Option Chosen
 once None chosen = Some chosen
 once (Some before) chosen = None
 
--- with the number of one more setting
+-- the choice with the number of one more setting
 abbrev pub choose : Chosen → Setting → ℕ → Option Chosen
 choose chosen settings.RaftPollers n = once chosen.raft_pollers (record chosen { raft_pollers = Some n })
 choose chosen settings.ApplyPollers n = once chosen.apply_pollers (record chosen { apply_pollers = Some n })
 choose chosen settings.Batch n = once chosen.batch (record chosen { batch = Some n })
 choose chosen settings.Chunk n = once chosen.chunk (record chosen { chunk = Some n })
 
--- with what two words choose: the name of a setting and its number
+-- the choice with that of two words: the name of a setting and its number
 abbrev pub chosen_with : Chosen → List ℕ → List ℕ → Option Chosen
 chosen_with chosen name number = option_and_then (λ setting. option_and_then (choose chosen setting) (number_for setting number)) (setting_of name)
 
--- with what all words choose: settings in any order, each at most once, its number as the next word
+-- the choice with that of all words: settings in any order, each at most once, its number as the next word
 abbrev pub chosen_by : Chosen → List (List ℕ) → Option Chosen
 chosen_by chosen [] = Some chosen
 chosen_by chosen (name ∷ []) = None

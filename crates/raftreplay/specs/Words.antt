@@ -14,7 +14,7 @@ use Rattle.raftreplay.specs.Settings.{number_word, options_of}
 abbrev pub bytes_of : List (String Global) → List (List ℕ)
 bytes_of words = map string_bytes words
 
--- the value, where there is one
+-- the value, if there is one
 abbrev pub value_in : Result (List ℕ) TextKind → Option (List ℕ)
 value_in (Ok key) = Some key
 value_in (Err kind) = None

@@ -27,13 +27,14 @@ impl Model for Answer {
 }
 
 impl Answer {
+    /// Returns the answer with this status and text.
     pub fn new(status: Status, text: Vec<u8>) -> Answer
         ensures { result ≡ record { status = status; text = text.items } }
     {
         Answer { status, text }
     }
 
-    /// An answer with no text.
+    /// Returns an answer with no text.
     pub fn silent(alloc: Global, status: Status) -> Answer
         ensures { result ≡ record { status = status; text = [] } }
     {

@@ -10,7 +10,7 @@ use rs_field::{Text, put_word};
 use rs_key::NoMemory;
 use std::alloc::Global;
 
-/// `lawful STORES ADDRESSES ENTRIES`.
+/// Returns `lawful STORES ADDRESSES ENTRIES`.
 pub fn write_lawful(alloc: Global, plan: &Plan) -> Result<Vec<u8>, NoMemory>
     ensures { IfOk result (λ text. text.items ≡ lawful_text plan.now) }
 {
@@ -24,7 +24,7 @@ pub fn write_lawful(alloc: Global, plan: &Plan) -> Result<Vec<u8>, NoMemory>
     Ok(text)
 }
 
-/// How many entries are applied, over all addresses.
+/// Returns how many entries are applied, over all addresses.
 fn applied_entries(plan: &Plan) -> u128
     ensures { result ≡ applied_entries plan.now }
 {

@@ -49,7 +49,7 @@ pub fn fold_command<S: Source, K: Sink>(alloc: Global, source: &mut S, sink: &mu
     }
 }
 
-/// The text of the fold.
+/// Returns the text of the fold.
 fn folded(alloc: Global, plan: &Plan) -> Result<Vec<u8>, NoMemory>
     ensures { IfOk result (λ text. text.items ≡ outcome_text (outcome_of plan.now)) }
 {
@@ -73,7 +73,7 @@ pub fn history_command<S: Source, K: Sink>(
     }
 }
 
-/// The text of the key's history.
+/// Returns the text of the key's history.
 fn history_of(alloc: Global, plan: &Plan, key: &Key) -> Result<Vec<u8>, NoMemory>
     ensures { IfOk result (λ text. text.items ≡ history_text (outcome_of plan.now) key.now) }
 {
@@ -103,7 +103,7 @@ pub fn run_command<R: Threads + Wait + Sync, S: Source, K: Sink, G: Gate>(
     }
 }
 
-/// The text of a run.
+/// Returns the text of a run.
 fn made_by_pollers<R: Threads + Wait + Sync, G: Gate>(
     rt: &R,
     alloc: Global,
@@ -125,7 +125,7 @@ pub fn gen_command<K: Sink>(alloc: Global, n: u64, sink: &mut K) -> Status
     finish(alloc, generated(alloc, n), sink)
 }
 
-/// The text of the logs that a number makes.
+/// Returns the text of the logs that a number makes.
 fn generated(alloc: Global, n: u64) -> Result<Vec<u8>, NoMemory>
     ensures { IfOk result (λ text. text.items ≡ text_of (made_of n)) }
 {
@@ -149,7 +149,7 @@ pub fn selftest_command<R: Threads + Wait + Sync, K: Sink, G: Gate>(
     finish(alloc, self_tested(rt, alloc, n, options, gate), sink)
 }
 
-/// The line of a self-test.
+/// Returns the line of a self-test.
 #[tactic(auto, using(crate::proofs::TwoStores::as_many_stores))]
 fn self_tested<R: Threads + Wait + Sync, G: Gate>(
     rt: &R,

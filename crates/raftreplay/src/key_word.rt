@@ -16,7 +16,7 @@ fn decode_into(word: &str, bytes: &mut [u8]) -> bool
     }
 }
 
-/// The key that a word spells: 2 to 512 hexadecimal digits of either case, an even number of them.
+/// Returns the key that a word spells: 2 to 512 hexadecimal digits of either case, an even number of them.
 ///
 /// Whether it spells one is found without memory, so memory runs out only for words that do.
 #[tactic(auto, using(crate::proofs::KeyWords::spelled, crate::proofs::KeyWords::too_short, crate::proofs::KeyWords::too_long, crate::proofs::KeyWords::no_digits))]

@@ -23,7 +23,7 @@ pub enum Setting {
 }
 
 impl Setting {
-    /// The setting that a word names.
+    /// Returns the setting that a word names.
     fn named(word: &str) -> Option<Setting>
         ensures { result ≡ setting_of word.now }
     {
@@ -40,7 +40,7 @@ impl Setting {
         }
     }
 
-    /// Its greatest number.
+    /// Returns its greatest number.
     fn greatest(self) -> u32
         ensures { result ≡ greatest self }
     {
@@ -51,7 +51,7 @@ impl Setting {
         }
     }
 
-    /// The number that a word gives it.
+    /// Returns the number that a word gives it.
     fn number(self, word: &str) -> Option<u32>
         ensures number { result ≡ number_for self word.now }
         ensures limited { IfSome result (IsUpTo (greatest self)) }
@@ -64,7 +64,7 @@ impl Setting {
     }
 }
 
-/// The number that a word spells: decimal digits without sign and without leading zero, at most
+/// Returns the number that a word spells: decimal digits without sign and without leading zero, at most
 /// 9,223,372,036,854,775,807.
 pub fn number_word(word: &str) -> Option<u64>
     ensures { result ≡ number_word word.now }
@@ -82,7 +82,7 @@ pub struct Chosen {
 }
 
 impl Chosen {
-    /// With the number of one more setting. None where one was chosen for it before.
+    /// Returns the settings with the number of one more; `None` if one was chosen for it before.
     fn choose(self, setting: Setting, number: u32) -> Option<Chosen>
         requires chosen { IsLimited self }
         requires limited { IsUpTo (greatest setting) number }
@@ -110,7 +110,7 @@ impl Chosen {
         }
     }
 
-    /// With what two words choose.
+    /// Returns the settings with what two words choose.
     fn with(self, name: &str, number: &str) -> Option<Chosen>
         requires { IsLimited self }
         ensures value { result ≡ chosen_with self name.now number.now }
@@ -122,7 +122,7 @@ impl Chosen {
     }
 }
 
-/// With what all words choose.
+/// Returns the settings with what all words choose.
 fn chosen_by(chosen: Chosen, words: &[String]) -> Option<Chosen>
     requires { IsLimited chosen }
     ensures value { result ≡ chosen_by chosen (bytes_of words.now) }
@@ -138,7 +138,7 @@ fn chosen_by(chosen: Chosen, words: &[String]) -> Option<Chosen>
     }
 }
 
-/// The options that words give: settings in any order, each at most once, its number as the next word.
+/// Returns the options that words give: settings in any order, each at most once, its number as the next word.
 pub fn options_of(words: &[String]) -> Option<Options>
     ensures { result ≡ options_of (bytes_of words.now) }
 {

@@ -86,7 +86,7 @@ pub fn binary_logs<S: Source>(alloc: Global, source: &mut S) -> Result<Input, An
     }
 }
 
-/// The logs of a text, or the answer that refuses them.
+/// Returns the logs of a text, or the answer that refuses them.
 #[tactic(auto, unfolding(crate::specs::Expected::text_reading), using(crate::proofs::CountedLogs::few_counted))]
 fn logs_of_text(alloc: Global, bytes: &[u8]) -> Result<Result<Input, Answer>, NoMemory>
     requires { length bytes.now ≤ limit }
@@ -105,7 +105,7 @@ fn logs_of_text(alloc: Global, bytes: &[u8]) -> Result<Result<Input, Answer>, No
     }
 }
 
-/// The lawful logs of a text, or the answer that refuses them.
+/// Returns the lawful logs of a text, or the answer that refuses them.
 #[tactic(auto, unfolding(crate::specs::Expected::reading_of))]
 fn lawful_logs_of_text(alloc: Global, bytes: &[u8]) -> Result<Result<Plan, Answer>, NoMemory>
     requires { length bytes.now ≤ limit }
@@ -119,7 +119,7 @@ fn lawful_logs_of_text(alloc: Global, bytes: &[u8]) -> Result<Result<Plan, Answe
     }
 }
 
-/// Logs, if they are lawful, or the answer that refuses them.
+/// Returns the logs, if they are lawful, or the answer that refuses them.
 fn checked_logs(alloc: Global, input: Input) -> Result<Result<Plan, Answer>, NoMemory>
     requires { WellFormed input }
     ensures reading { IfOk result (λ reading. checked input (check input) ≡ reading) }
@@ -135,7 +135,7 @@ fn checked_logs(alloc: Global, input: Input) -> Result<Result<Plan, Answer>, NoM
     }
 }
 
-/// The logs of a binary file, or the answer that refuses them.
+/// Returns the logs of a binary file, or the answer that refuses them.
 #[tactic(auto, unfolding(crate::specs::Expected::binary_reading))]
 fn logs_of_binary(alloc: Global, bytes: &[u8]) -> Result<Result<Input, Answer>, NoMemory>
     requires { length bytes.now ≤ limit }
@@ -152,7 +152,7 @@ fn logs_of_binary(alloc: Global, bytes: &[u8]) -> Result<Result<Input, Answer>, 
     }
 }
 
-/// `binary OFFSET`.
+/// Returns `binary OFFSET`.
 fn write_offset(alloc: Global, offset: u64) -> Result<Vec<u8>, NoMemory>
     ensures { IfOk result (λ text. text.items ≡ offset_text offset) }
 {

@@ -10,7 +10,7 @@ use rs_field::{Text, put_word};
 use rs_key::NoMemory;
 use std::alloc::Global;
 
-/// How much an outcome tells of, over all stores.
+/// The sizes of an outcome, over all stores.
 #[derive(Clone, Copy)]
 struct Counts {
     /// Regions.
@@ -21,7 +21,7 @@ struct Counts {
     writes: u128,
 }
 
-/// `selftest N equal STORES ADDRESSES ENTRIES WRITES`.
+/// Returns `selftest N equal STORES ADDRESSES ENTRIES WRITES`.
 pub fn write_counts(alloc: Global, n: u64, outcome: &Outcome) -> Result<Vec<u8>, NoMemory>
     requires { length outcome.now.stores ≤ 2 }
     ensures { IfOk result (λ text. text.items ≡ counts_text n outcome.now) }
@@ -46,7 +46,7 @@ fn put_counts(text: &mut Vec<u8>, counts: Counts) -> Result<(), NoMemory>
     put_count(text, counts.writes)
 }
 
-/// The counts of two stores at most.
+/// Returns the counts of two stores at most.
 fn counts_of(outcome: &Outcome) -> Counts
     requires { length outcome.now.stores ≤ 2 }
     ensures regions { result.regions ≡ region_count outcome.now }
@@ -66,7 +66,7 @@ fn counts_of(outcome: &Outcome) -> Counts
     counts
 }
 
-/// How many entries the regions of a store applied.
+/// Returns how many entries the regions of a store applied.
 fn store_entries(store: &StoreOutcome) -> u128
     ensures value { result ≡ store_entries store.now }
     ensures most { result < 2 ^ 127 }
@@ -78,7 +78,7 @@ fn store_entries(store: &StoreOutcome) -> u128
     total
 }
 
-/// How many single writes a store accepted.
+/// Returns how many single writes a store accepted.
 fn store_writes(store: &StoreOutcome) -> u128
     ensures value { result ≡ store_writes store.now }
     ensures most { result < 2 ^ 127 }

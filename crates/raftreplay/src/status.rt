@@ -1,7 +1,7 @@
 ghost use Rattle.std.specs.Prelude.{◌≡◌};
 ghost use Rattle.raftreplay.specs.Statuses.{number_of};
 
-/// How a command ended.
+/// The status with which a command ends.
 #[derive(Clone, Copy, Debug, PartialEq, Eq)]
 pub enum Status {
     /// The answer was written.
@@ -18,12 +18,12 @@ pub enum Status {
     WriteFault,
     /// Memory ran out. Nothing was written.
     NoMemory,
-    /// There are more than 64 MiB to read. Nothing was written.
+    /// The input has more than 64 MiB. Nothing was written.
     TooLong,
 }
 
 impl Status {
-    /// The number that the program ends with.
+    /// Returns the number that the program ends with.
     pub fn number(self) -> u8
         ensures { result ≡ number_of self }
     {
@@ -39,7 +39,7 @@ impl Status {
         }
     }
 
-    /// The line for standard error, where a status has one.
+    /// Returns the line for standard error, where a status has one.
     pub fn message(self) -> Option<&'static str> {
         match self {
             Status::Done | Status::Syntax | Status::Unlawful => None,

@@ -7,7 +7,7 @@ use rs_engine::Options;
 use rs_key::{Key, NoMemory};
 use std::alloc::Global;
 
-/// What the program is asked to do.
+/// A command of the program.
 #[derive(Debug, Drop)]
 pub enum Command {
     /// `check`: whether the logs are lawful.
@@ -28,7 +28,7 @@ pub enum Command {
     Unpack,
 }
 
-/// The command that the words are. Words that are none of the forms are none, and then no memory is taken.
+/// Returns the command that the words are. Words that are none of the forms are none, and then no memory is taken.
 pub fn command_of(alloc: Global, words: &[String]) -> Result<Option<Command>, NoMemory>
     ensures ok { IfOk result (λ command. command ≡ command_of (bytes_of words.now)) }
     ensures err { OnErr result (is_some (command_of (bytes_of words.now)) ≡ true) }
@@ -39,7 +39,7 @@ pub fn command_of(alloc: Global, words: &[String]) -> Result<Option<Command>, No
     }
 }
 
-/// The command of this name with the words behind it.
+/// Returns the command of this name with the words behind it.
 fn command_named(alloc: Global, name: &str, words: &[String]) -> Result<Option<Command>, NoMemory>
     ensures ok { IfOk result (λ command. command ≡ command_named name.now (bytes_of words.now)) }
     ensures err { OnErr result (is_some (command_named name.now (bytes_of words.now)) ≡ true) }
@@ -65,7 +65,7 @@ fn command_named(alloc: Global, name: &str, words: &[String]) -> Result<Option<C
     }
 }
 
-/// The command, where no word is left.
+/// Returns the command, where no word is left.
 fn alone(command: Command, words: &[String]) -> Option<Command>
     ensures { result ≡ alone command (bytes_of words.now) }
 {
@@ -75,7 +75,7 @@ fn alone(command: Command, words: &[String]) -> Option<Command>
     }
 }
 
-/// `KEY`.
+/// Returns the command whose one word is `KEY`.
 fn with_key(alloc: Global, words: &[String]) -> Result<Option<Command>, NoMemory>
     ensures ok { IfOk result (λ command. command ≡ with_key (bytes_of words.now)) }
     ensures err { OnErr result (is_some (with_key (bytes_of words.now)) ≡ true) }
@@ -89,14 +89,14 @@ fn with_key(alloc: Global, words: &[String]) -> Result<Option<Command>, NoMemory
     }
 }
 
-/// Options.
+/// Returns the command whose words are options.
 fn with_options(words: &[String]) -> Option<Command>
     ensures { result ≡ with_options (bytes_of words.now) }
 {
     Some(Command::Run(options_of(words)?))
 }
 
-/// `N`.
+/// Returns the command whose one word is `N`.
 fn with_number(words: &[String]) -> Option<Command>
     ensures { result ≡ with_number (bytes_of words.now) }
 {
@@ -106,7 +106,7 @@ fn with_number(words: &[String]) -> Option<Command>
     }
 }
 
-/// `N` and options.
+/// Returns the command whose words are `N` and options.
 fn with_number_and_options(words: &[String]) -> Option<Command>
     ensures { result ≡ with_number_and_options (bytes_of words.now) }
 {

@@ -6,6 +6,9 @@ use Rattle.rs_entry.specs.declared.entry.Entry.{Entry}
 use Rattle.rs_entry.specs.declared.entry.Op.{Op}
 use Rattle.rs_entry.specs.declared.input.Input.{Input}
 use Rattle.rs_entry.specs.declared.outcome.Reply.TheVariants as reply
+use Rattle.rs_region.specs.Actions.{turn_body, turned}
+use Rattle.rs_region.specs.declared.action.Turn.{Turn}
+use Rattle.rs_region.specs.declared.action.Turn.TheVariants as turn
 use Rattle.rs_region.specs.Reshapings.{prepared, rolled_back, reconfigured}
 use Rattle.rs_region.specs.Verdicts.{verdict}
 use Rattle.rs_region.specs.declared.state.RegionState.{RegionState}
@@ -29,15 +32,20 @@ module _ (input : Input) (laws : PlanLaws input) (a i : ℕ) (e : Entry) (there 
       (λ q. ap (λ l. l ++ history_of (map (wrote (region_of input a) (i + 1)) ops) q) (v.items q)
       ∙ ap (λ id. items_at m q ++ history_of (map (wrote id (i + 1)) ops) q) (sym (named input laws a i e there s m held)) ∙ sym (items q))
 
-  pub prepares : (target : ℕ) (s' : RegionState) → e.body ≡ body.Prepare target → s' ≡ prepared s target (i + 1) → IsNext input a i s' m (reply.Done s'.epoch.version ∷ [])
+  prepares : (target : ℕ) (s' : RegionState) → e.body ≡ body.Prepare target → s' ≡ prepared s target (i + 1) → IsNext input a i s' m (reply.Done s'.epoch.version ∷ [])
   prepares target s' is state =
       after input laws a i e there s m held accept (body.Prepare target) (record { state = prepared v.part.state target (i + 1); items = v.part.items }) s' m is refl
       (ap (λ z. prepared z target (i + 1)) v.state ∙ sym state) v.items
 
-  pub rolls_back : (commit : ℕ) (s' : RegionState) → e.body ≡ body.Rollback commit → s' ≡ rolled_back s → IsNext input a i s' m (reply.Done s'.epoch.version ∷ [])
+  rolls_back : (commit : ℕ) (s' : RegionState) → e.body ≡ body.Rollback commit → s' ≡ rolled_back s → IsNext input a i s' m (reply.Done s'.epoch.version ∷ [])
   rolls_back commit s' is state =
       after input laws a i e there s m held accept (body.Rollback commit) (record { state = rolled_back v.part.state; items = v.part.items }) s' m is refl (ap rolled_back v.state ∙ sym state) v.items
 
-  pub changes_peers : (c : Change) (s' : RegionState) → e.body ≡ body.Conf c → s' ≡ reconfigured s c → IsNext input a i s' m (reply.Done s'.epoch.version ∷ [])
+  changes_peers : (c : Change) (s' : RegionState) → e.body ≡ body.Conf c → s' ≡ reconfigured s c → IsNext input a i s' m (reply.Done s'.epoch.version ∷ [])
   changes_peers c s' is state =
       after input laws a i e there s m held accept (body.Conf c) (record { state = reconfigured v.part.state c; items = v.part.items }) s' m is refl (ap (λ z. reconfigured z c) v.state ∙ sym state) v.items
+
+  pub turns : (t : Turn) (s' : RegionState) → e.body ≡ turn_body t → s' ≡ turned (i + 1) t s → IsNext input a i s' m (reply.Done s'.epoch.version ∷ [])
+  turns (turn.Prepare target) s' is state = prepares target s' is state
+  turns (turn.Rollback commit) s' is state = rolls_back commit s' is state
+  turns (turn.Conf c) s' is state = changes_peers c s' is state

@@ -1,5 +1,5 @@
 -- Two ranges that lie side by side, and the maps of both.
-use Rattle.std.proofs.Common.{◌≡◌, ◌⊎◌, inl, inr, ⊎_elim, ℕ, Bool, true, false, List, [], ◌++◌, Option, Some, refl, ap, sym, ◌∙◌, subst, append-nil}
+use Rattle.std.proofs.Common.{◌≡◌, ⊎_elim, ℕ, Bool, true, false, List, [], ◌++◌, Some, refl, ap, sym, ◌∙◌, subst, append-nil}
 use Rattle.rs_key.specs.Keys.{is_below}
 use Rattle.rs_key.specs.Ranges.{Bounds, holds, is_next_to}
 use Rattle.rs_region.proofs.KeyOrder.{is_below_end, not_below_start}

@@ -2,8 +2,7 @@
 use Rattle.std.proofs.Common.{◌≡◌, ℕ, zero, suc, ◌+◌, ◌-◌, ◌<◌, ◌==◌, Bool, true, false, List, [], ◌∷◌, ◌++◌, length, Option, Some, None, refl, sym, arith, subst}
 use Rattle.std.specs.Prelude.{position, unwrap_or, ltb, if◌then◌else◌}
 use Rattle.std.specs.Borrow.{Bor}
-use Rattle.std.specs.List.{All, AllByRecursion, flat_map}
-use Rattle.std.proofs.lemmas.List.{append-nil}
+use Rattle.std.specs.List.{All, AllByRecursion}
 use Rattle.std.proofs.lemmas.List.Elements.{All-append, All-from_recursion}
 use Rattle.std.proofs.lemmas.List.Quantifiers.{position-Some}
 use Rattle.rs_entry.specs.declared.input.Input.{Input}
@@ -12,9 +11,10 @@ use Rattle.rs_entry.specs.declared.outcome.Mode.{Mode}
 use Rattle.rs_entry.specs.declared.outcome.Mode.TheVariants as mode
 use Rattle.rs_region.specs.declared.state.RegionState.{RegionState}
 use Rattle.rs_check.specs.declared.plan.Plan.{Plan}
-use Rattle.rs_check.specs.Plans.{address_of, ends_of, is_at, rows_of, store_rows}
-use Rattle.rs_check.specs.Values.{count_of, reshaped_by}
+use Rattle.rs_check.specs.Plans.{address_of, ends_of, is_at, rows_of}
+use Rattle.rs_check.specs.Values.{count_of, reshaped_by, store_place}
 use Rattle.rs_check.proofs.PlanLaws.{position_within}
+use Rattle.rs_check.proofs.StoresFound.{some_store}
 use Rattle.rs_msg.specs.Names.{name_of_apply, name_of_store}
 use Rattle.rs_msg.specs.declared.closed.Closed.{Closed}
 use Rattle.rs_msg.specs.declared.messages.ApplyMsg.{ApplyMsg}
@@ -24,13 +24,12 @@ use Rattle.rs_msg.specs.declared.messages.StoreMsg.{StoreMsg}
 use Rattle.rs_msg.specs.declared.messages.StoreMsg.TheVariants as store
 use Rattle.rs_msg.specs.declared.outbox.Outbox.{Outbox}
 use Rattle.rs_apply.specs.Births.{AreBirths, IsBirthMsg}
-use Rattle.rs_apply.specs.Findings.{find_on, store_place}
+use Rattle.rs_apply.specs.Findings.{find_on}
 use Rattle.rs_apply.specs.Fitting.{Fits, FitsApply, FitsPeer, FitsStore}
 use Rattle.rs_apply.specs.Machines.{applied_if, asks_for, catch_up, catch_ups, has_merge, Comes, EndsApplies, EndsStores, HandsOver, IsAdvance, IsEndingMsg, IsHandover, IsStill}
 use Rattle.rs_apply.specs.Merges.{merge_at, merge_results, results_from, to_peer}
 use Rattle.rs_apply.specs.Reshapings.{reshaped_if, reshapes_at, reshapings_from}
 use Rattle.rs_apply.specs.Steps.{each_of}
-use Rattle.rs_apply.proofs.Places.{taken_all}
 use Rattle.rs_apply.specs.declared.progress.Life.{Life}
 use Rattle.rs_apply.specs.declared.progress.Life.TheVariants as life
 use Rattle.rs_apply.specs.declared.progress.Progress.{Progress}
@@ -53,16 +52,11 @@ each_fits P f i (suc n) h = All-append P (each_of f i n) (f (i + n)) (each_fits 
 address_within : (input : Input) (a region b : ℕ) → find_on input a region ≡ Some b → b < count_of input
 address_within input a region b h = position_within (is_at (address_of input a).0 region) (rows_of input) b h
 
-some_store : (input : Input) (a : ℕ) → a < count_of input → (stores : List Store) → input.stores ≡ stores → 0 < length stores
-unfolding rows_of
-some_store input a below [] e = absurd (omega (arith, subst (λ l. a < length (flat_map store_rows l)) e below))
-some_store input a below (s ∷ ss) e = omega arith
-
 store_within : (input : Input) (a : ℕ) → a < count_of input → store_place input a < length input.stores
 store_within input a below = go (position (λ s. s.id == (address_of input a).0) input.stores) refl
   where
     go : (o : Option ℕ) → position (λ s. s.id == (address_of input a).0) input.stores ≡ o → unwrap_or o 0 < length input.stores
-    go None e = some_store input a below input.stores refl
+    go None e = some_store input a below
     go (Some n) e = within input.stores e
       where
         within : (stores : List Store) → position (λ s. s.id == (address_of input a).0) stores ≡ Some n → n < length stores
@@ -170,26 +164,6 @@ module _ (plan : Bor Plan) (a : ℕ) (below : a < count_of plan.now) where
         applies = applies_fit p comes.applies.between out_after.applies comes.applies.handover between;
         stores = stores_fit p (out.stores ++ reshapings_from plan a i n) out_after.stores comes.stores (All-append (FitsStore plan.now) out.stores (reshapings_from plan a i n) fits.stores reshaped);
       }
-
--- ---- taking out
-
-pub none_fit : (input : Input) (out : Outbox) → out.peers ≡ [] → out.applies ≡ [] → out.stores ≡ [] → Fits input out
-none_fit input out e f g = record {
-  peers = subst (All (FitsPeer input)) (sym e) (nobody (FitsPeer input));
-  applies = subst (All (FitsApply input)) (sym f) (nobody (FitsApply input));
-  stores = subst (All (FitsStore input)) (sym g) (nobody (FitsStore input));
-}
-
-pub last_fits : (input : Input) (old new : Outbox) (p : ℕ × ApplyMsg) → Fits input old → new.peers ≡ old.peers → new.stores ≡ old.stores → old.applies ≡ new.applies ++ p ∷ [] → (name_of_apply p.1 ≡ input) × Fits input new
-last_fits input old new p fits e f g =
-    let taken = taken_all (FitsApply input) new.applies [] p (subst (All (FitsApply input)) g fits.applies) in (
-      taken.0.1,
-      record {
-        peers = subst (All (FitsPeer input)) (sym e) fits.peers;
-        applies = subst (All (FitsApply input)) (append-nil new.applies) taken.1;
-        stores = subst (All (FitsStore input)) (sym f) fits.stores;
-      },
-    )
 
 -- ---- one call
 

@@ -1,7 +1,7 @@
 -- One entry more of a run.
-use Rattle.std.proofs.Common.{◌≡◌, ℕ, suc, ◌+◌, List, ◌++◌, refl, ap, sym, ◌∙◌, arith, subst}
+use Rattle.std.proofs.Common.{◌≡◌, ℕ, suc, ◌+◌, List, ◌++◌, ap, ◌∙◌, arith, subst}
 use Rattle.std.specs.Borrow.{Bor}
-use Rattle.std.proofs.lemmas.List.{append_assoc, append-nil}
+use Rattle.std.proofs.lemmas.List.{append_assoc}
 use Rattle.rs_check.specs.declared.plan.Plan.{Plan}
 use Rattle.rs_check.specs.Values.{reshaped_by}
 use Rattle.rs_msg.specs.declared.closed.Closed.{Closed}
@@ -11,7 +11,7 @@ use Rattle.rs_apply.specs.Merges.{merge_at, merge_results}
 use Rattle.rs_apply.specs.Reshapings.{reshaped_if, reshapes_at}
 use Rattle.rs_apply.specs.Runs.{HasDone, HasRun}
 use Rattle.rs_apply.specs.Steps.{each_of}
-use Rattle.rs_apply.proofs.Sending.{adds_both, adds_none}
+use Rattle.rs_apply.proofs.Sending.{adds_both}
 use Rattle.rs_apply.proofs.TakenOut.{without_more}
 
 each_more : {A : Type 0} (f : ℕ → List A) (i n j : ℕ) (old mid new : List A) → mid ≡ old ++ each_of f i n → j ≡ i + n → new ≡ mid ++ f j → new ≡ old ++ each_of f i (n + 1)
@@ -30,7 +30,3 @@ run_more plan a i n j c0 c1 c2 o0 o1 o2 ran here done =
       births = subst (λ k. AddsBirths plan.now a (made_from plan.now a i k) o0.applies o2.applies) e (subst (λ k. AddsBirths plan.now a (made_from plan.now a i n ++ made_at plan.now a k) o0.applies o2.applies) here both);
       stores = each_more (λ k. reshaped_if plan a (reshaped_by plan.now a (k + 1)) (reshapes_at plan.now a k)) i n j o0.stores o1.stores o2.stores ran.stores here done.stores;
     }
-
--- no entry yet
-pub run_none : (plan : Bor Plan) (a i : ℕ) (held : List Closed) (out : Outbox) → HasRun plan a i 0 held out held out
-run_none plan a i held out = record { closed = refl; peers = sym (append-nil out.peers); births = adds_none plan.now a out.applies; stores = sym (append-nil out.stores) }

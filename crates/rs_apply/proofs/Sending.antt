@@ -1,6 +1,6 @@
 -- Births that are sent one after another.
-use Rattle.std.proofs.Common.{ℕ, List, [], ◌∷◌, ◌++◌, ap, sym, ◌∙◌}
-use Rattle.std.proofs.lemmas.List.{append_assoc, append-nil}
+use Rattle.std.proofs.Common.{ℕ, List, [], ◌∷◌, ◌++◌, ap, ◌∙◌}
+use Rattle.std.proofs.lemmas.List.{append_assoc}
 use Rattle.rs_entry.specs.declared.input.Input.{Input}
 use Rattle.rs_region.specs.declared.state.RegionState.{RegionState}
 use Rattle.rs_msg.specs.declared.messages.ApplyMsg.{ApplyMsg}
@@ -20,6 +20,3 @@ adds_both input a states more old mid new first second =
       is = second.is ∙ ap (λ l. l ++ second.sent) first.is ∙ append_assoc old first.sent second.sent;
       births = both_births input a states more first.sent second.sent first.births second.births;
     }
-
-pub adds_none : (input : Input) (a : ℕ) (old : List (ℕ × ApplyMsg)) → AddsBirths input a [] old old
-adds_none input a old = record { sent = []; is = sym (append-nil old); births = tt }

@@ -28,6 +28,7 @@ abbrev pub made_in : Verdict → RegionState → Body → List RegionState
 made_in verdicts.Accept s (body.Split side ids keys) = split_new s side ids keys
 made_in v s b = []
 
+-- the states of the regions that the entry makes at the part, if both are there
 abbrev pub made_of : Option Part → Option Entry → List RegionState
 made_of (Some v) (Some e) = made_in (verdict v.state e) v.state e.body
 made_of v e = []
@@ -48,16 +49,18 @@ pub record BornWith (input : Input) (a : ℕ) (s : RegionState) (m : Writes) : T
   pub placed : Placed input a s.region b
   pub held : IsHeld input b 5 s m
 
+-- the region has a map of writes, and is born with it
 abbrev pub IsBorn : Input → ℕ → RegionState → Option Writes → Type 0
 IsBorn input a s None = ⊥
 IsBorn input a s (Some m) = BornWith input a s m
 
+-- each of the regions is born with the map of writes at the same place
 abbrev pub AreBorn : Input → ℕ → List RegionState → List Writes → Type 0
 AreBorn input a [] maps = Unit {0}
 AreBorn input a (s ∷ states) [] = ⊥
 AreBorn input a (s ∷ states) (m ∷ maps) = BornWith input a s m × AreBorn input a states maps
 
--- of the maps from left to right, the one that the split region keeps, and the rest
+-- the split region keeps one of the maps, which go from left to right, and the new regions get the others
 abbrev pub IsKeeping : Side → List Writes → Writes → List Writes → Type 0
 IsKeeping sides.Right all kept rest = all ≡ rest ++ kept ∷ []
 IsKeeping sides.Left all kept rest = all ≡ kept ∷ rest
@@ -79,6 +82,7 @@ AreBirths input a [] (p ∷ sent) = ⊥
 AreBirths input a (s ∷ states) [] = ⊥
 AreBirths input a (s ∷ states) (p ∷ sent) = (find_on input a s.region ≡ Some p.0) × IsBirthMsg input p.0 p.1 × AreBirths input a states sent
 
+-- the outbox gains the births of these regions, in their order, and no other message to an apply machine
 pub record AddsBirths (input : Input) (a : ℕ) (states : List RegionState) (old new : List (ℕ × ApplyMsg)) : Type 0 where
   pub sent : List (ℕ × ApplyMsg)
   pub is : new ≡ old ++ sent

@@ -1,6 +1,6 @@
 -- Where a machine sends its messages.
 use Rattle.std.specs.List.{find}
-use Rattle.std.specs.Prelude.{ℕ, ◌==◌, Option, Some, None, position, unwrap_or}
+use Rattle.std.specs.Prelude.{ℕ, ◌==◌, Option, Some, None, position}
 use Rattle.rs_entry.specs.declared.input.Boot.{Boot}
 use Rattle.rs_entry.specs.declared.input.Input.{Input}
 use Rattle.rs_entry.specs.declared.input.Store.{Store}
@@ -11,10 +11,7 @@ use Rattle.rs_check.specs.Values.{region_of, store_at}
 abbrev pub find_on : Input → ℕ → ℕ → Option ℕ
 find_on input a region = position (is_at (address_of input a).0 region) (rows_of input)
 
--- the place of the address's store among the plan's stores
-abbrev pub store_place : Input → ℕ → ℕ
-store_place input a = unwrap_or (position (λ s. s.id == (address_of input a).0) input.stores) 0
-
+-- the boot region with this id in the store, if both exist
 abbrev pub boot_in : Option Store → ℕ → Option Boot
 boot_in None region = None
 boot_in (Some store) region = find (λ b. b.region == region) store.regions

@@ -20,6 +20,7 @@ abbrev pub named_after : ℕ → ApplyMsg → ℕ
 named_after named (apply.Task plan upto) = max named upto
 named_after named msg = named
 
+-- the mode is that of a region merged into the target
 abbrev pub is_merged_into : ℕ → Mode → Bool
 is_merged_into target (mode.Merged t) = t == target
 is_merged_into target m = false
@@ -38,6 +39,7 @@ abbrev pub is_birth_of : ℕ → ApplyMsg → Bool
 is_birth_of a (apply.Birth piece) = piece.value.address == a
 is_birth_of a msg = false
 
+-- the region is born and has applied no entry
 abbrev pub IsNewborn : Life → Type 0
 IsNewborn life.Unborn = ⊥
 IsNewborn (life.Born r) = r.index ≡ 5
@@ -49,10 +51,12 @@ IsBornNow life.Unborn new = IsNewborn new
 IsBornNow (life.Born r) new = new ≡ life.Born r
 IsBornNow (life.Over merged) new = new ≡ life.Over merged
 
+-- the region is born if the flag says so; else its life is as before
 abbrev pub IsBornIf : Bool → Life → Life → Type 0
 IsBornIf true old new = IsBornNow old new
 IsBornIf false old new = new ≡ old
 
+-- the message of a birth makes the region be born; any other leaves its life as before
 abbrev pub IsBornBy : ℕ → ApplyMsg → Life → Life → Type 0
 IsBornBy a msg old new = IsBornIf (is_birth_of a msg) old new
 

@@ -7,3 +7,4 @@ pub mod Merges
 pub mod Reshapings
 pub mod Runs
 pub mod Steps
+pub mod Views

@@ -7,7 +7,7 @@ use Rattle.rs_entry.specs.declared.outcome.Mode.{Mode}
 use Rattle.rs_entry.specs.declared.outcome.Mode.TheVariants as mode
 use Rattle.rs_check.specs.declared.plan.Plan.{Plan}
 use Rattle.rs_check.specs.Plans.{stop_of, ends_of}
-use Rattle.rs_check.specs.Values.{region_of}
+use Rattle.rs_check.specs.Values.{region_of, store_place}
 use Rattle.rs_msg.specs.declared.closed.Closed.{Closed}
 use Rattle.rs_msg.specs.declared.messages.ApplyMsg.{ApplyMsg}
 use Rattle.rs_msg.specs.declared.messages.ApplyMsg.TheVariants as apply
@@ -21,7 +21,7 @@ use Rattle.rs_apply.specs.declared.progress.Progress.TheVariants as progress
 use Rattle.rs_apply.specs.declared.progress.Life.{Life}
 use Rattle.rs_apply.specs.declared.progress.Life.TheVariants as life
 use Rattle.rs_apply.specs.Births.{AddsBirths, made_from}
-use Rattle.rs_apply.specs.Findings.{find_on, store_place}
+use Rattle.rs_apply.specs.Findings.{find_on}
 use Rattle.rs_apply.specs.Merges.{IsWithoutAll, merges_from, results_from, waits_at}
 use Rattle.rs_apply.specs.Reshapings.{reshapings_from}
 
@@ -50,6 +50,7 @@ abbrev pub may_end : Mode → Bool → Bool
 may_end (mode.Merged target) caught = caught
 may_end m caught = true
 
+-- the machine at the address may end, whether or not its peer asked it to catch up
 abbrev pub can_end : Input → ℕ → Bool → Bool
 can_end input a caught = may_end (ends_of input a) caught
 
@@ -64,15 +65,17 @@ IsCause input a last caught closed j (progress.WaitsFor source commit) = (j < la
 IsCause input a last caught closed j progress.More = (j < last) × (waits_at input a closed j ≡ None)
 IsCause input a last caught closed j progress.Rests = (last ≤ j) × (j ≡ stop_of input a → can_end input a caught ≡ false)
 
+-- there are more entries to apply
 abbrev pub is_more : Progress → Bool
 is_more progress.More = true
 is_more p = false
 
+-- the region has applied its last entry
 abbrev pub is_ended : Progress → Bool
 is_ended progress.Ended = true
 is_ended p = false
 
--- with Ended the machine is over, else its region is at the index
+-- the machine is over after Ended; otherwise its region is at the index
 abbrev pub IsLife : ℕ → Progress → Life → Type 0
 IsLife j p life.Unborn = ⊥
 IsLife j p (life.Born r) = (r.index ≡ j) × (is_ended p ≡ false)
@@ -80,10 +83,11 @@ IsLife j p (life.Over merged) = is_ended p ≡ true
 
 -- ---- what it sends
 
--- that entries up to j are applied, where there were any after i
+-- the message to the peer machine that entries up to j are applied, if any were applied after i
 abbrev pub applied_if : Bor Plan → ℕ → ℕ → ℕ → List (ℕ × PeerMsg)
 applied_if plan a i j = if ltb i j then (a, peer.Applied plan j) ∷ [] else []
 
+-- the same source and the same index of the commit
 abbrev pub is_merge : ℕ × ℕ → ℕ × ℕ → Bool
 is_merge x y = (x.0 == y.0) && (x.1 == y.1)
 
@@ -95,20 +99,23 @@ has_merge merges merge = list_any (is_merge merge) merges
 abbrev pub with_asked : List (ℕ × ℕ) → ℕ × ℕ → List (ℕ × ℕ)
 with_asked asked merge = if has_merge asked merge then asked else asked ++ merge ∷ []
 
+-- the merges for which the source was asked to catch up, after this progress
 abbrev pub asked_after : List (ℕ × ℕ) → Progress → List (ℕ × ℕ)
 asked_after asked progress.Ended = asked
 asked_after asked (progress.WaitsFor source commit) = with_asked asked (source, commit)
 asked_after asked progress.More = asked
 asked_after asked progress.Rests = asked
 
+-- the request to a source's peer to catch up to the commit, if the source has an address
 abbrev pub catch_up : Bor Plan → ℕ → ℕ → Option ℕ → List (ℕ × PeerMsg)
 catch_up plan a commit None = []
 catch_up plan a commit (Some b) = (b, peer.CatchUp plan (region_of plan.now a) commit) ∷ []
 
--- to the source's peer machine, at the first time that its merge is waited for
+-- the request to the source's peer machine, if its merge is waited for the first time
 abbrev pub asks_for : Bor Plan → ℕ → List (ℕ × ℕ) → ℕ × ℕ → List (ℕ × PeerMsg)
 asks_for plan a asked merge = if has_merge asked merge then [] else catch_up plan a merge.1 (find_on plan.now a merge.0)
 
+-- the requests to catch up that this progress sends: one, if it waits for a source not yet asked
 abbrev pub catch_ups : Bor Plan → ℕ → List (ℕ × ℕ) → Progress → List (ℕ × PeerMsg)
 catch_ups plan a asked progress.Ended = []
 catch_ups plan a asked (progress.WaitsFor source commit) = asks_for plan a asked (source, commit)
@@ -123,6 +130,7 @@ IsHandover input a target (apply.CatchUpLogs plan t commit) = ⊥
 IsHandover input a target (apply.SourceDone closed) = (closed.value.plan.now ≡ input) × (closed.value.address ≡ a) × (closed.value.target ≡ target) × (closed.value.commit ≡ stop_of input a)
 IsHandover input a target (apply.Noop plan) = ⊥
 
+-- the outbox gains one message, which hands the region over to the target's apply machine
 pub record AddsHandover (input : Input) (a target : ℕ) (old new : List (ℕ × ApplyMsg)) : Type 0 where
   pub place : ℕ
   pub found : find_on input a target ≡ Some place
@@ -148,14 +156,14 @@ pub record AddsEnding (input : Input) (a : ℕ) (old new : List (ℕ × StoreMsg
   pub is : new ≡ old ++ (store_place input a, message) ∷ []
   pub tells : IsEndingMsg input a message
 
--- with Ended the region hands over
+-- the region hands over exactly with Ended
 abbrev pub EndsApplies : Input → ℕ → Progress → List (ℕ × ApplyMsg) → List (ℕ × ApplyMsg) → Type 0
 EndsApplies input a progress.Ended old new = HandsOver input a (ends_of input a) old new
 EndsApplies input a (progress.WaitsFor source commit) old new = new ≡ old
 EndsApplies input a progress.More old new = new ≡ old
 EndsApplies input a progress.Rests old new = new ≡ old
 
--- with Ended its ending is sent
+-- the region's ending is sent exactly with Ended
 abbrev pub EndsStores : Input → ℕ → Progress → List (ℕ × StoreMsg) → List (ℕ × StoreMsg) → Type 0
 EndsStores input a progress.Ended old new = AddsEnding input a old new
 EndsStores input a (progress.WaitsFor source commit) old new = new ≡ old

@@ -25,6 +25,7 @@ abbrev pub merge_in : Verdict → Body → Option (ℕ × ℕ)
 merge_in verdicts.Accept (body.Commit source commit carried) = Some (source, commit)
 merge_in v b = None
 
+-- the source and the commit's index, if the entry is a commit that the part accepts
 abbrev pub merge_of : Option Part → Option Entry → Option (ℕ × ℕ)
 merge_of (Some v) (Some e) = merge_in (verdict v.state e) e.body
 merge_of v e = None
@@ -43,10 +44,12 @@ merges_from input a i n = each_of (λ k. option_to_list (merge_at input a k)) i 
 abbrev pub is_of : ℕ → ℕ → Closed → Bool
 is_of b commit x = (x.address == b) && (x.commit == commit)
 
+-- the source at the address has handed over its state for the commit
 abbrev pub has_closed : List Closed → Option ℕ → ℕ → Bool
 has_closed closed None commit = false
 has_closed closed (Some b) commit = list_any (is_of b commit) closed
 
+-- the merge, if its source hasn't handed over its state
 abbrev pub unheld : Input → ℕ → List Closed → Option (ℕ × ℕ) → Option (ℕ × ℕ)
 unheld input a closed None = None
 unheld input a closed (Some merge) = if has_closed closed (find_on input a merge.0) merge.1 then None else Some merge
@@ -64,6 +67,7 @@ pub record TakesFirst {A : Type 0} (test : A → Bool) (x : A) (old new : List A
   pub none : list_any test before ≡ false
   pub passes : test x ≡ true
 
+-- the first state that the source at the address handed over for the commit is taken out of the list
 abbrev pub IsWithoutAt : Option ℕ → ℕ → List Closed → List Closed → Type 0
 IsWithoutAt None commit old new = new ≡ old
 IsWithoutAt (Some b) commit old new = (x : Closed) × TakesFirst (is_of b commit) x old new
@@ -80,15 +84,16 @@ IsWithoutAll input a i (suc n) old new = (mid : List Closed) × IsWithoutAll inp
 
 -- ---- what is sent
 
+-- the result of the merge, sent to the source's peer if it has an address
 abbrev pub to_peer : Bor Plan → ℕ → Option ℕ → List (ℕ × PeerMsg)
 to_peer plan a None = []
 to_peer plan a (Some b) = (b, peer.MergeResult plan (region_of plan.now a)) ∷ []
 
--- that the merge is done, to the source's peer machine
+-- the message to the source's peer machine that the merge is done
 abbrev pub merge_results : Bor Plan → ℕ → Option (ℕ × ℕ) → List (ℕ × PeerMsg)
 merge_results plan a None = []
 merge_results plan a (Some merge) = to_peer plan a (find_on plan.now a merge.0)
 
--- of the n entries after the index
+-- the results of the merges that the n entries after the index commit
 abbrev pub results_from : Bor Plan → ℕ → ℕ → ℕ → List (ℕ × PeerMsg)
 results_from plan a i n = each_of (λ k. merge_results plan a (merge_at plan.now a k)) i n

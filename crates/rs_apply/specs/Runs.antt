@@ -9,7 +9,7 @@ use Rattle.rs_apply.specs.Births.{AddsBirths, made_at, made_from}
 use Rattle.rs_apply.specs.Merges.{IsWithout, IsWithoutAll, merge_at, merge_results, results_from}
 use Rattle.rs_apply.specs.Reshapings.{reshaped_if, reshapes_at, reshapings_from}
 
--- of the entry after the index: what was handed over for its merge is taken out of the list, and the result of its
+-- the entry after the index is done: what was handed over for its merge is taken out, and the result of its
 -- merge, the births of its regions and its reshaping are in the outbox
 pub record HasDone (plan : Bor Plan) (a i : ℕ) (held : List Closed) (out : Outbox) (held_after : List Closed) (out_after : Outbox) : Type 0 where
   pub closed : IsWithout plan.now a (merge_at plan.now a i) held held_after
@@ -17,7 +17,7 @@ pub record HasDone (plan : Bor Plan) (a i : ℕ) (held : List Closed) (out : Out
   pub births : AddsBirths plan.now a (made_at plan.now a i) out.applies out_after.applies
   pub stores : out_after.stores ≡ out.stores ++ reshaped_if plan a (reshaped_by plan.now a (i + 1)) (reshapes_at plan.now a i)
 
--- of the n entries after the index: what was handed over for their merges is taken out of the list, and for each
+-- the n entries after the index are done: what was handed over for their merges is taken out, and for each
 -- there are the results of its merge, the births of its regions and its reshaping in the outbox, in their order
 pub record HasRun (plan : Bor Plan) (a i n : ℕ) (held : List Closed) (out : Outbox) (held_after : List Closed) (out_after : Outbox) : Type 0 where
   pub closed : IsWithoutAll plan.now a i n held held_after

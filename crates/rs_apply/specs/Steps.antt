@@ -21,7 +21,7 @@ abbrev pub IsNext : Input → ℕ → ℕ → RegionState → Writes → List Re
 IsNext input a i s m replies =
     IsHeld input a (i + 1) s m × (reply_by (part_at input a i) (entry_at input a (i + 1)) (part_at input a (i + 1)) ≡ replies)
 
--- of each of the n entries that follow the index, in their order
+-- the lists of the n entries that follow the index, one after another
 abbrev pub each_of : {A : Type 0} → (ℕ → List A) → ℕ → ℕ → List A
 each_of f i zero = []
 each_of f i (suc n) = each_of f i n ++ f (i + n)

@@ -58,7 +58,7 @@ fn tell_applied<'p>(
     }
 }
 
-/// What the region does now, where entries up to the last may be applied.
+/// Returns what the region does now, where entries up to the last may be applied.
 fn conclude<'p>(
     region: Region<'p>,
     last: u64,
@@ -77,7 +77,7 @@ fn conclude<'p>(
     let plan = region.plan;
     let address = region.address;
     if region.index < last {
-        match region.waits(closed) {
+        match region.waits(region.next_entry(), closed) {
             None => Ok((Life::Born(region), Progress::More)),
             Some((source, commit)) => {
                 ask(plan, address, (source, commit), asked, &mut out.peers)?;
@@ -94,7 +94,7 @@ fn conclude<'p>(
     }
 }
 
-/// Whether the region may end at its stop.
+/// Returns whether the region may end at its stop.
 fn can_end(plan: &Plan, address: u32, caught: bool) -> bool
     requires below { address < count_of plan.now }
     ensures { result ≡ can_end plan.now address caught }

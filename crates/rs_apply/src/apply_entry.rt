@@ -11,15 +11,14 @@ ghost use Rattle.rs_apply.specs.Births.{AddsBirths, made_in};
 ghost use Rattle.rs_apply.specs.Merges.{merge_in, merge_results, unheld, IsWithout};
 ghost use Rattle.rs_apply.specs.Steps.{IsNext};
 
-use crate::local_entries::{conf, prepare, refuse, roll_back, write};
+use crate::local_entries::{refuse, turn, write};
 use crate::merge::merge;
 use crate::next::Next;
 use crate::split::split;
-use rs_check::Line;
-use rs_entry::{Body, CarriedBody, Reply};
+use rs_entry::Reply;
 use rs_key::NoMemory;
 use rs_msg::{Closed, Map, Outbox};
-use rs_region::{RegionState, Verdict};
+use rs_region::{Action, RegionState, Verdict};
 use rs_store::is_accept;
 
 /// Applies the entry, and sends what it makes. Where it commits a merge the source must have handed over.
@@ -72,29 +71,20 @@ fn accept<'p>(
     ensures births { OnOk result (AddsBirths next.entry.plan.now next.entry.address (made_in verdicts.Accept state.old (line_entry next.entry.line).body) out.old.applies out.new.applies) }
     ensures stores { OnOk result (out.new.stores ≡ out.old.stores) }
 {
-    match next.line {
-        Line::Own(entry) => match &entry.body {
-            Body::Empty => unreachable!(),
-            Body::Write(ops) => write(next, state, map, ops),
-            Body::Split { side, ids, keys } => {
-                split(next, state, map, *side, ids, keys, &mut out.applies)
-            }
-            Body::Prepare { target } => Ok(prepare(next, state, map, *target)),
-            Body::Commit {
-                source,
-                commit,
-                carried,
-            } => {
-                let peers = &mut out.peers;
-                merge(next, state, map, (*source, *commit), carried, closed, peers)
-            }
-            Body::Rollback { commit } => Ok(roll_back(next, state, map, *commit)),
-            Body::Conf { change } => conf(next, state, map, change),
-        },
-        Line::Carried(carried) => match &carried.body {
-            CarriedBody::Empty => unreachable!(),
-            CarriedBody::Write(ops) => write(next, state, map, ops),
-            CarriedBody::Prepare { target } => Ok(prepare(next, state, map, *target)),
-        },
+    match next.line.action() {
+        Action::Nothing => unreachable!(),
+        Action::Writes(ops) => write(next, state, map, ops),
+        Action::Splits { side, ids, keys } => {
+            split(next, state, map, side, ids, keys, &mut out.applies)
+        }
+        Action::Merges {
+            source,
+            commit,
+            carried,
+        } => {
+            let peers = &mut out.peers;
+            merge(next, state, map, (source, commit), carried, closed, peers)
+        }
+        Action::Turns(by) => turn(next, state, map, by),
     }
 }

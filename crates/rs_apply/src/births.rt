@@ -18,7 +18,7 @@ use rs_msg::{Map, Piece};
 use rs_region::RegionState;
 use std::alloc::Global;
 
-/// What a new machine has: a region from the start, or none before its Birth.
+/// Returns what a new machine has: a region from the start, or none before its Birth.
 pub fn opened<'p>(plan: &'p Plan, address: u32) -> Result<Life<'p>, NoMemory>
     requires laws { PlanLaws plan.now }
     requires below { address < count_of plan.now }
@@ -66,7 +66,7 @@ fn first_boot(boots: &[Boot], region: u64) -> Option<&Boot>
     boots.iter().find(|b| b.region == region)
 }
 
-/// What a machine has after a Birth. A piece of another address changes nothing.
+/// Returns what a machine has after a Birth. A piece of another address changes nothing.
 pub fn born<'p>(
     plan: &'p Plan,
     address: u32,

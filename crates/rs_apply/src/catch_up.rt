@@ -49,6 +49,7 @@ fn send_catch_up<'p>(
     }
 }
 
+/// Returns whether the merge is listed.
 pub fn has_merge(merges: &[(u64, u64)], merge: (u64, u64)) -> bool
     ensures { result ≡ has_merge merges.now merge }
 {

@@ -11,7 +11,6 @@ ghost use Rattle.rs_msg.specs.Held.{IsEnding, IsHeld, leaves_map};
 ghost use Rattle.rs_apply.specs.Machines.{AddsEnding, AddsHandover, HandsOver};
 ghost use Rattle.rs_apply.specs.Merges.{merges_from};
 
-use crate::records::store_place;
 use crate::region::Region;
 use rs_check::Plan;
 use rs_entry::{Mode, ReplyLine};
@@ -41,11 +40,11 @@ pub fn finish<'p>(region: Region<'p>, out: &mut Outbox<'p>) -> Result<Rows<(u64,
     let ending = Ending::new(plan, address, state, replies, left);
     let ending = Box::new(out.stores.allocator(), ending)?;
     out.stores
-        .push((store_place(plan, address), StoreMsg::Ended { ending }))?;
+        .push((plan.place(address), StoreMsg::Ended { ending }))?;
     Ok(merged)
 }
 
-/// The map that is left to the region at its stop. That of a region that is merged goes to its target.
+/// Returns the map that is left to the region at its stop. That of a region that is merged goes to its target.
 fn leave<'p>(
     plan: &'p Plan,
     address: u32,

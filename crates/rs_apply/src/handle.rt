@@ -13,7 +13,7 @@ use rs_check::Plan;
 use rs_entry::Mode;
 use rs_msg::Closed;
 
-/// Whether the merge is the one by which the plan ends the region.
+/// Returns whether the merge is the one by which the plan ends the region.
 pub fn ends_by(plan: &Plan, address: u32, target: u64, commit: u64) -> bool
     requires { address < count_of plan.now }
     ensures { result ≡ ends_by plan.now address target commit }
@@ -30,7 +30,7 @@ fn is_merged_into(target: u64, mode: Mode) -> bool
     }
 }
 
-/// The merges that the machine's region has committed.
+/// Returns the merges that the machine's region has committed.
 pub fn merges_so_far<'a>(plan: &Plan, address: u32, life: &'a Life<'_>) -> &'a [(u64, u64)]
     requires { IsTied plan address life.now }
     ensures { result.now ≡ merges_so_far plan.now address life.now }
@@ -42,7 +42,7 @@ pub fn merges_so_far<'a>(plan: &Plan, address: u32, life: &'a Life<'_>) -> &'a [
     }
 }
 
-/// Whether a source hands over to the address for a merge that isn't committed yet, and for the first time.
+/// Returns whether a source hands over to the address for a merge that isn't committed yet, and for the first time.
 pub fn is_new(
     plan: &Plan,
     address: u32,

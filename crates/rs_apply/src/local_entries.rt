@@ -2,6 +2,7 @@
 
 ghost use Rattle.std.specs.Prelude.{◌≡◌, ◌+◌, ◌∷◌, [], false, option_to_list, IfOk};
 ghost use Rattle.rs_entry.specs.declared.entry.Body.TheVariants as body;
+ghost use Rattle.rs_region.specs.Actions.{turn_body};
 ghost use Rattle.rs_region.specs.Verdicts.{verdict};
 ghost use Rattle.rs_region.specs.declared.verdict.Verdict.TheVariants as verdicts;
 ghost use Rattle.rs_store.specs.Runs.{line_entry};
@@ -11,11 +12,11 @@ ghost use Rattle.rs_msg.specs.Held.{IsHeld};
 ghost use Rattle.rs_apply.specs.Steps.{IsNext};
 
 use crate::next::Next;
-use rs_entry::{Change, Op, Reply};
+use rs_entry::{Op, Reply};
 use rs_key::{NoMemory, Rows};
 use rs_msg::Map;
-use rs_region::{RegionState, Verdict};
-use rs_store::refusal;
+use rs_region::{RegionState, Turn, Verdict};
+use rs_store::reply_to;
 
 /// Answers an entry that isn't accepted, which changes nothing.
 pub fn refuse(
@@ -30,7 +31,7 @@ pub fn refuse(
     requires refused { is_accept why ≡ false }
     ensures { IfOk result (λ r. IsNext next.entry.plan.now next.entry.address next.entry.index state.now map.now (option_to_list r)) }
 {
-    refusal(why, next.line, state)
+    reply_to(why, next.line.action(), state)
 }
 
 /// Applies an accepted write.
@@ -50,43 +51,19 @@ pub fn write<'p>(
     Ok(Reply::Done(state.epoch.version))
 }
 
-/// Applies an accepted prepare.
-pub fn prepare(next: Next<'_>, state: &mut RegionState, map: &Map<'_>, target: u64) -> Reply
-    requires laws { PlanLaws next.plan.now }
-    requires held { IsHeld next.plan.now next.address next.index state.old map.now }
-    requires accept { verdict state.old (line_entry next.line) ≡ verdicts.Accept }
-    requires body { (line_entry next.line).body ≡ body.Prepare target }
-    ensures { IsNext next.entry.plan.now next.entry.address next.entry.index state.new map.now (result ∷ []) }
-{
-    state.exec_prepare(target, next.index + 1);
-    Reply::Done(state.epoch.version)
-}
-
-/// Applies an accepted rollback.
-pub fn roll_back(next: Next<'_>, state: &mut RegionState, map: &Map<'_>, commit: u64) -> Reply
-    requires laws { PlanLaws next.plan.now }
-    requires held { IsHeld next.plan.now next.address next.index state.old map.now }
-    requires accept { verdict state.old (line_entry next.line) ≡ verdicts.Accept }
-    requires body { (line_entry next.line).body ≡ body.Rollback commit }
-    ensures { IsNext next.entry.plan.now next.entry.address next.entry.index state.new map.now (result ∷ []) }
-{
-    state.exec_rollback();
-    Reply::Done(state.epoch.version)
-}
-
-/// Applies an accepted change of peers. That a store's own peer is removed isn't marked in the state.
-pub fn conf(
+/// Applies an accepted entry that turns the region. That a store's own peer is removed isn't marked in the state.
+pub fn turn(
     next: Next<'_>,
     state: &mut RegionState,
     map: &Map<'_>,
-    change: &Change,
+    turn: Turn,
 ) -> Result<Reply, NoMemory>
     requires laws { PlanLaws next.plan.now }
     requires held { IsHeld next.plan.now next.address next.index state.old map.now }
     requires accept { verdict state.old (line_entry next.line) ≡ verdicts.Accept }
-    requires body { (line_entry next.line).body ≡ body.Conf change.now }
+    requires body { (line_entry next.line).body ≡ turn_body turn }
     ensures { IfOk result (λ r. IsNext next.entry.plan.now next.entry.address next.entry.index state.new map.now (r ∷ [])) }
 {
-    state.exec_conf(change)?;
+    state.turn(turn, next.index + 1)?;
     Ok(Reply::Done(state.epoch.version))
 }

@@ -1,36 +1,29 @@
 //! What a region's next entry is to do, read off it before it is applied.
 
 ghost use Rattle.std.specs.Prelude.{◌≡◌, ◌<◌};
-ghost use Rattle.rs_store.specs.Runs.{line_entry};
+ghost use Rattle.rs_region.specs.Actions.{body_for};
 ghost use Rattle.rs_store.specs.Stores.{is_reshaping};
 ghost use Rattle.rs_check.specs.Values.{count_of};
 ghost use Rattle.rs_apply.specs.Merges.{merge_in, unheld};
 ghost use Rattle.rs_apply.specs.Reshapings.{reshapes_by};
 
 use crate::sources::has_closed;
-use rs_check::{Line, Plan};
-use rs_entry::{Body, CarriedBody};
+use rs_check::Plan;
 use rs_msg::Closed;
-use rs_region::Verdict;
+use rs_region::{Action, Verdict};
 use rs_store::is_accept;
 
-/// The source of the merge that the entry commits, and the index of its prepare.
-pub fn merge_in(verdict: Verdict, line: Line<'_>) -> Option<(u64, u64)>
-    ensures { result ≡ merge_in verdict (line_entry line.entry).body }
+/// Returns the source of the merge that the entry commits, and the index of its prepare.
+pub fn merge_in(verdict: Verdict, action: Action<'_>) -> Option<(u64, u64)>
+    ensures { result ≡ merge_in verdict (body_for action.entry) }
 {
-    if !is_accept(verdict) {
-        return None;
-    }
-    match line {
-        Line::Own(entry) => match &entry.body {
-            Body::Commit { source, commit, .. } => Some((*source, *commit)),
-            _ => None,
-        },
-        Line::Carried(_) => None,
+    match (verdict, action) {
+        (Verdict::Accept, Action::Merges { source, commit, .. }) => Some((source, commit)),
+        _ => None,
     }
 }
 
-/// The merge, where its source hasn't handed over.
+/// Returns the merge, where its source hasn't handed over.
 pub fn unheld(
     plan: &Plan,
     address: u32,
@@ -48,28 +41,18 @@ pub fn unheld(
     }
 }
 
-/// Whether the entry changes the region's state.
-pub fn is_reshaping(verdict: Verdict, line: Line<'_>) -> bool
-    ensures { result ≡ reshapes_by verdict (line_entry line.entry).body }
+/// Returns whether the entry changes the region's state.
+pub fn is_reshaping(verdict: Verdict, action: Action<'_>) -> bool
+    ensures { result ≡ reshapes_by verdict (body_for action.entry) }
 {
-    is_accept(verdict) && is_reshaping_body(line)
+    is_accept(verdict) && reshapes(action)
 }
 
-fn is_reshaping_body(line: Line<'_>) -> bool
-    ensures { result ≡ is_reshaping (line_entry line.entry).body }
+fn reshapes(action: Action<'_>) -> bool
+    ensures { result ≡ is_reshaping (body_for action.entry) }
 {
-    match line {
-        Line::Own(entry) => match &entry.body {
-            Body::Empty | Body::Write(_) => false,
-            Body::Split { .. }
-            | Body::Prepare { .. }
-            | Body::Commit { .. }
-            | Body::Rollback { .. }
-            | Body::Conf { .. } => true,
-        },
-        Line::Carried(carried) => match &carried.body {
-            CarriedBody::Empty | CarriedBody::Write(_) => false,
-            CarriedBody::Prepare { .. } => true,
-        },
+    match action {
+        Action::Nothing | Action::Writes(_) => false,
+        Action::Splits { .. } | Action::Merges { .. } | Action::Turns(_) => true,
     }
 }

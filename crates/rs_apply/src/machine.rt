@@ -29,7 +29,7 @@ pub struct ApplyFsm<'p> {
     named: u64,
     /// Whether the CatchUpLogs came of the merge by which the region ends.
     caught: bool,
-    /// What sources have handed over for merges that aren't committed yet.
+    /// The states that sources have handed over for merges that aren't committed yet.
     closed: Vec<Closed<'p>>,
     /// The merges that were asked for.
     asked: Rows<(u64, u64)>,
@@ -40,7 +40,10 @@ pub struct ApplyFsm<'p> {
 }
 
 impl<'p> ApplyFsm<'p> {
-    /// A region from the start is born with applied index 5. Any other waits for its Birth.
+    ghost use Rattle.rs_apply.specs.Views.{IsSince, stage_of};
+
+    /// Returns the machine of the region at the address. A region from the start is born with applied index 5. Any
+    /// other waits for its Birth.
     pub fn new(plan: &'p Plan, address: u32) -> Result<ApplyFsm<'p>, NoMemory>
         requires { address < count_of plan.now }
         ensures plan { IfOk result (λ m. m.plan ≡ plan.entry) }
@@ -121,6 +124,7 @@ impl<'p> ApplyFsm<'p> {
         ensures fresh { OnOk result ((self.old.spent ≡ false) × (self.new.spent ≡ false)) }
         ensures named { self.new.named ≡ self.old.named }
         ensures caught { self.new.caught ≡ self.old.caught }
+        ensures since { IsSince (stage_of self.old.life) }
         ensures advance { IfOk result (λ p. IsAdvance self.old.plan self.old.address self.old.named self.old.caught budget self.old.life self.old.closed.items self.old.asked out.old p self.new.life self.new.closed.items self.new.asked out.new) }
         ensures fits { OnOk result (Fits self.old.plan.now out.old → Fits self.old.plan.now out.new) }
     {

@@ -78,7 +78,7 @@ fn commit<'p>(
     Ok(Reply::Done(state.epoch.version))
 }
 
-/// The map of both ranges, which lie side by side.
+/// Returns the map of both ranges, which lie side by side.
 fn join<'p>(range: &Range, map: Map<'p>, other: &Range, items: Map<'p>) -> Result<Map<'p>, NoMemory>
     requires next { is_next_to range.now other.now ≡ true }
     requires map { LiesIn range.now map }
@@ -94,7 +94,7 @@ fn join<'p>(range: &Range, map: Map<'p>, other: &Range, items: Map<'p>) -> Resul
     unreachable!()
 }
 
-/// The key at which the left range ends and the right one begins; None exactly where there is none.
+/// Returns the key at which the left range ends and the right one begins; `None` exactly where the ranges don't touch.
 fn border<'r>(left: &'r Range, right: &Range) -> Option<&'r Key>
     ensures { MatchOption result (meets left.now.end right.now.start ≡ false) (λ at. (left.now.end ≡ Some at.now) × (right.now.start ≡ Some at.now)) }
 {

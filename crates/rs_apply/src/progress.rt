@@ -1,7 +1,7 @@
 use crate::region::Region;
 use rs_key::Rows;
 
-/// What came of a call of `advance`. docs/BATCH.md tells when each comes.
+/// The result of a call of `advance`. docs/BATCH.md tells when each comes.
 #[derive(Clone, Copy, Debug, PartialEq, Eq)]
 pub enum Progress {
     /// The region has applied its last entry, and what it leaves is sent.
@@ -14,12 +14,12 @@ pub enum Progress {
     Rests,
 }
 
-/// What a machine has of its region.
+/// The stage of a machine's region.
 #[derive(Drop)]
 pub enum Life<'p> {
-    /// It wasn't made yet.
+    /// The region wasn't made yet.
     Unborn,
     Born(Region<'p>),
-    /// It has ended. These are the merges that it has committed.
+    /// The region has ended. These are the merges that it has committed.
     Over(Rows<(u64, u64)>),
 }

@@ -1,16 +1,15 @@
 //! What is kept and told of an entry that was applied.
 
-ghost use Rattle.std.specs.Prelude.{◌≡◌, ◌+◌, ◌≤◌, ◌<◌, ◌^◌, ◌++◌, option_to_list, if◌then◌else◌, OnOk, IfOk, IfSome, position, ◌==◌};
-ghost use Rattle.rs_check.specs.Values.{count_of, reply_lines};
-ghost use Rattle.rs_apply.specs.Findings.{store_place};
+ghost use Rattle.std.specs.Prelude.{◌≡◌, ◌+◌, ◌<◌, ◌^◌, ◌++◌, option_to_list, if◌then◌else◌, OnOk, IfOk};
+ghost use Rattle.rs_check.specs.Values.{reply_lines};
 ghost use Rattle.rs_apply.specs.Reshapings.{reshaped_if};
 
 use crate::next::Next;
-use rs_check::Plan;
 use rs_entry::{Reply, ReplyLine};
 use rs_key::{NoMemory, Rows};
 use rs_msg::StoreMsg;
 
+/// Appends the line of the entry's reply, if it has one. `NoMemory` is want of memory.
 pub fn note_reply(
     replies: &mut Rows<ReplyLine>,
     region: u64,
@@ -29,6 +28,7 @@ pub fn note_reply(
     }
 }
 
+/// Appends the merge, if there is one. `NoMemory` is want of memory.
 pub fn note_merge(merged: &mut Rows<(u64, u64)>, merge: Option<(u64, u64)>) -> Result<(), NoMemory>
     ensures { OnOk result (merged.new ≡ merged.old ++ option_to_list merge) }
 {
@@ -56,31 +56,8 @@ pub fn tell_reshaping<'p>(
     let address = next.address;
     let nth = reshaped + 1;
     stores.push((
-        store_place(plan, address),
+        plan.place(address),
         StoreMsg::Reshaped { plan, address, nth },
     ))?;
     Ok(nth)
-}
-
-/// The place of the address's store among the plan's stores.
-pub fn store_place(plan: &Plan, address: u32) -> u32
-    requires below { address < count_of plan.now }
-    ensures { result ≡ store_place plan.now address }
-{
-    let (store, _) = plan.address(address);
-    match place_of(plan, store) {
-        None => 0,
-        Some(place) => place as u32,
-    }
-}
-
-fn place_of(plan: &Plan, store: u64) -> Option<usize>
-    ensures place { result ≡ position (λ s. s.id == store) plan.now.stores }
-    ensures within { IfSome result (λ place. place < 64) }
-{
-    plan.input()
-        .stores
-        .as_slice()
-        .iter()
-        .position(|s| s.id == store)
 }

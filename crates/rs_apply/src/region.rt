@@ -1,5 +1,6 @@
 ghost use Rattle.std.specs.Prelude.{◌≡◌, ◌+◌, ◌-◌, ◌<◌, ◌≤◌, ◌^◌, ◌⊎◌, ◌++◌, ℕ, Some, None, OnOk, IfOk, IsSome};
 ghost use Rattle.std.specs.List.{All};
+ghost use Rattle.rs_region.specs.Verdicts.{verdict};
 ghost use Rattle.rs_store.specs.Runs.{line_entry, IsFormed};
 ghost use Rattle.rs_check.specs.Lawfulness.{PlanLaws};
 ghost use Rattle.rs_check.specs.Plans.{stop_of};
@@ -13,12 +14,12 @@ use crate::apply_entry::change;
 use crate::lookahead::{is_reshaping, merge_in, unheld};
 use crate::next::Next;
 use crate::records::{note_merge, note_reply, tell_reshaping};
-use rs_check::{Line, Plan};
+use rs_check::Plan;
 use rs_entry::ReplyLine;
 use rs_key::{NoMemory, Rows};
 use rs_msg::{Closed, Map, Outbox};
 use rs_region::RegionState;
-use rs_store::verdict_of;
+use rs_store::NextEntry;
 use std::alloc::Global;
 
 /// A region that was made, as it is after an index.
@@ -33,7 +34,7 @@ pub struct Region<'p> {
     pub replies: Rows<ReplyLine>,
     /// The merges that it has committed, by their sources and the indexes of their prepares.
     pub merged: Rows<(u64, u64)>,
-    /// How often it was reshaped.
+    /// The number of times that it was reshaped.
     pub reshaped: u64,
     ghost below: { address < count_of plan.now },
     ghost since: { 5 ≤ index },
@@ -46,7 +47,7 @@ pub struct Region<'p> {
 }
 
 impl<'p> Region<'p> {
-    /// A region that has applied nothing yet.
+    /// Returns a region that has applied nothing yet.
     pub fn new(
         plan: &'p Plan,
         address: u32,
@@ -73,38 +74,42 @@ impl<'p> Region<'p> {
         }
     }
 
-    /// The entry that it applies next.
-    fn line(&self) -> Line<'p>
+    /// The entry that it applies next, and what becomes of it.
+    pub fn next_entry(&self) -> NextEntry<'p>
         requires laws { PlanLaws self.now.plan.now }
         requires within { self.now.index < stop_of self.now.plan.now self.now.address }
-        ensures entry { HasNext self.now.plan.now self.now.address self.now.index (line_entry result) }
-        ensures formed { IsFormed (line_entry result).body }
+        ensures entry { HasNext self.now.plan.now self.now.address self.now.index (line_entry result.line) }
+        ensures formed { IsFormed (line_entry result.line).body }
+        ensures verdict { result.verdict ≡ verdict self.now.state (line_entry result.line) }
     {
         let Some(line) = self.plan.entry(self.address, self.index + 1) else {
             unreachable!()
         };
-        line
+        let verdict = line.verdict(&self.state);
+        NextEntry { line, verdict }
     }
 
-    /// The merge that it waits for.
-    pub fn waits(&self, closed: &[Closed<'p>]) -> Option<(u64, u64)>
-        requires laws { PlanLaws self.now.plan.now }
-        requires within { self.now.index < stop_of self.now.plan.now self.now.address }
+    /// The merge that it waits for before it applies the entry.
+    pub fn waits(&self, next_entry: NextEntry<'p>, closed: &[Closed<'p>]) -> Option<(u64, u64)>
+        requires entry { HasNext self.now.plan.now self.now.address self.now.index (line_entry next_entry.line) }
+        requires verdict { next_entry.verdict ≡ verdict self.now.state (line_entry next_entry.line) }
         ensures { result ≡ waits_at self.now.plan.now self.now.address closed.now self.now.index }
     {
-        let line = self.line();
-        let why = verdict_of(&self.state, line);
-        unheld(self.plan, self.address, closed, merge_in(why, line))
+        let merge = merge_in(next_entry.verdict, next_entry.line.action());
+        unheld(self.plan, self.address, closed, merge)
     }
 
-    /// Applies the next entry.
+    /// Applies the entry, which is the next.
     pub fn step(
         self,
+        next_entry: NextEntry<'p>,
         closed: &mut Vec<Closed<'p>>,
         out: &mut Outbox<'p>,
     ) -> Result<Region<'p>, NoMemory>
         requires laws { PlanLaws self.plan.now }
-        requires within { self.index < stop_of self.plan.now self.address }
+        requires entry { HasNext self.plan.now self.address self.index (line_entry next_entry.line) }
+        requires formed { IsFormed (line_entry next_entry.line).body }
+        requires verdict { next_entry.verdict ≡ verdict self.state (line_entry next_entry.line) }
         requires plans { All (λ x. x.plan.now ≡ self.plan.now) closed.old.items }
         requires ready { waits_at self.plan.now self.address closed.old.items self.index ≡ None }
         ensures plan { IfOk result (λ r. r.plan ≡ self.entry.plan) }
@@ -113,7 +118,8 @@ impl<'p> Region<'p> {
         ensures plans { OnOk result (All (λ x. x.plan.now ≡ self.entry.plan.now) closed.new.items) }
         ensures done { OnOk result (HasDone self.entry.plan self.entry.address self.entry.index closed.old.items out.old closed.new.items out.new) }
     {
-        let line = self.line();
+        let NextEntry { line, verdict } = next_entry;
+        let action = line.action();
         let Region {
             plan,
             address,
@@ -131,11 +137,10 @@ impl<'p> Region<'p> {
             line,
         };
         let region = state.region;
-        let why = verdict_of(&state, line);
-        let reply = change(next, why, &mut state, &mut map, closed, out)?;
+        let reply = change(next, verdict, &mut state, &mut map, closed, out)?;
         note_reply(&mut replies, region, index + 1, reply)?;
-        note_merge(&mut merged, merge_in(why, line))?;
-        let is = is_reshaping(why, line);
+        note_merge(&mut merged, merge_in(verdict, action))?;
+        let is = is_reshaping(verdict, action);
         let reshaped = tell_reshaping(next, reshaped, is, &mut out.stores)?;
         Ok(Region {
             plan,
@@ -173,10 +178,11 @@ impl<'p> Region<'p> {
             if region.index >= last {
                 return Ok(region);
             }
-            if region.waits(closed).is_some() {
+            let next_entry = region.next_entry();
+            if region.waits(next_entry, closed).is_some() {
                 return Ok(region);
             }
-            region = region.step(closed, out)?;
+            region = region.step(next_entry, closed, out)?;
         }
         Ok(region)
     }

@@ -22,6 +22,7 @@ pub fn take_closed<'p>(
     None
 }
 
+/// Returns whether the source at the address handed over its state for the commit at this index.
 pub fn has_closed(closed: &[Closed<'_>], address: u32, commit: u64) -> bool
     ensures { result ≡ list_any (is_of address commit) closed.now }
 {

@@ -45,7 +45,7 @@ pub fn split<'p>(
     Ok(Reply::Done(state.epoch.version))
 }
 
-/// The map that the split region keeps, and the others.
+/// Returns the map that the split region keeps, and the others.
 fn keep<'p>(side: Side, parts: Vec<Map<'p>>) -> Option<(Map<'p>, Vec<Map<'p>>)>
     ensures { MatchOption result (parts.entry.items ≡ []) (λ r. IsKeeping side parts.entry.items r.0 r.1.items) }
 {

@@ -1,7 +1,7 @@
--- Counts of calls and of faults, which stand still at 2^64 - 1.
+-- Counts of calls and of faults, which saturate at 2^64 - 1.
 use Rattle.std.specs.Prelude.{ℕ, ◌+◌, ◌-◌, ◌^◌, ◌≤◌, min}
 
--- the count after one more, or the last value, at which a count stands
+-- the count after one more; at 2^64 - 1 it stays
 abbrev pub one_more : ℕ → ℕ
 one_more count = min (count + 1) (2 ^ 64 - 1)
 

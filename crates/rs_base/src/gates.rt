@@ -3,7 +3,7 @@ use std::sync::Wait;
 /// A gate that each worker passes before it handles a machine. It has no answer, and it may hold
 /// the worker up, so nothing says that a call returns.
 pub trait Gate: Sync {
-    /// The worker of this number is about to handle the machine at this address.
+    /// Lets the worker of this number pass, which is about to handle the machine at this address.
     fn pass<R: Wait>(&self, rt: &R, worker: u32, address: u32);
 }
 

@@ -8,7 +8,7 @@ use std::alloc::Global;
 use std::marker::Model;
 use thiserror::Error;
 
-/// There is no memory for the room of a sink.
+/// Memory ran out for the room of a sink.
 #[derive(Clone, Copy, Debug, PartialEq, Eq, Error)]
 #[error("no memory for the room of a sink")]
 pub struct NoRoom;
@@ -17,7 +17,7 @@ pub struct NoRoom;
 /// at most chosen numbers of bytes in a call and in all, and fails in the calls whose numbers it was
 /// given, counted from 1.
 ///
-/// Its counts of calls and of faults stand still at 2^64 - 1, so every call from there on has that
+/// Its counts of calls and of faults saturate at 2^64 - 1, so every later call has that
 /// number.
 #[derive(Debug, Drop)]
 pub struct MemSink {
@@ -52,7 +52,7 @@ impl Model for MemSink {
 }
 
 impl MemSink {
-    /// A sink with room for `room` bytes, which takes at most `most` of them in a call and fails in
+    /// Returns a sink with room for `room` bytes, which takes at most `most` of them in a call and fails in
     /// the calls whose numbers, from 1, are listed in `fails`. `NoRoom` is want of memory.
     pub fn reserved(
         alloc: Global,
@@ -81,7 +81,7 @@ impl MemSink {
         })
     }
 
-    /// The bytes that were taken.
+    /// Returns the bytes that were taken.
     pub fn bytes(&self) -> &[u8]
         ensures value { result.now ≡ self.now.taken }
         ensures within { length self.now.taken ≤ self.now.room }
@@ -89,7 +89,7 @@ impl MemSink {
         &self.bytes
     }
 
-    /// How many writes failed.
+    /// Returns how many writes failed.
     pub fn faults(&self) -> u64
         ensures { result ≡ self.now.faults }
     {

@@ -9,7 +9,7 @@ use std::marker::Model;
 /// A source over memory, which tells its bytes. It gives at most a chosen number of them in a call,
 /// and fails in the calls whose numbers it was given, counted from 1.
 ///
-/// Its counts of calls and of faults stand still at 2^64 - 1, so every call from there on has that
+/// Its counts of calls and of faults saturate at 2^64 - 1, so every later call has that
 /// number.
 #[derive(Debug, Drop)]
 pub struct MemSource {
@@ -39,7 +39,7 @@ impl Model for MemSource {
 }
 
 impl MemSource {
-    /// A source of these bytes, which gives at most `most` of them in a call and fails in the calls
+    /// Returns a source of these bytes, which gives at most `most` of them in a call and fails in the calls
     /// whose numbers, from 1, are listed in `fails`.
     pub fn new(bytes: Vec<u8>, most: usize, fails: Vec<u64>) -> MemSource
         requires { 0 < most }
@@ -61,7 +61,7 @@ impl MemSource {
         }
     }
 
-    /// How many reads failed.
+    /// Returns how many reads failed.
     pub fn faults(&self) -> u64
         ensures { result ≡ self.now.faults }
     {

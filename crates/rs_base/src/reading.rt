@@ -7,16 +7,16 @@ use crate::traits::{Failed, Source};
 use std::alloc::{AllocError, Global};
 use thiserror::Error;
 
-/// Why not all bytes were read.
+/// The error of a source that wasn't read to its end.
 #[derive(Clone, Copy, Debug, PartialEq, Eq, Error)]
 pub enum ReadError {
     /// A read failed.
     #[error("a read failed")]
     ReadFault,
-    /// There are more bytes than the limit.
+    /// The source has more bytes than the limit.
     #[error("there are more bytes than the limit")]
     TooLong,
-    /// There is no memory for the bytes.
+    /// Memory ran out.
     #[error("out of memory")]
     NoMemory,
 }
@@ -37,7 +37,7 @@ impl From<AllocError> for ReadError {
     }
 }
 
-/// How many bytes are asked of the source at most in one read.
+/// The greatest number of bytes of one read.
 const PIECE: usize = 8_192;
 
 /// Reads all bytes that are left, if these are at most `limit`.

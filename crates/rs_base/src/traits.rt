@@ -14,13 +14,13 @@ pub trait Source {
     /// The bytes left, where the source tells them.
     ghost left: { Self → Option (List ℕ) };
 
-    /// How many reads failed. The count never falls, and may stand still at 2^64 - 1.
+    /// The number of reads that failed. The count never falls, and saturates at 2^64 - 1.
     ghost faults: { Self → ℕ };
 
-    /// No read from here on fails. A source that can't promise it leaves this out.
+    /// No later read fails. A source that can't promise it leaves this out.
     ghost never_fails: { Self → Type 0 } = { λ _. ⊥ };
 
-    /// Moves the next bytes to the front of the buffer, and says how many. Into a buffer with room
+    /// Moves the next bytes to the front of the buffer, and returns their number. Into a buffer with room
     /// it moves none only at the end. What stands behind them in the buffer is left open.
     fn read(&mut self, buf: &mut [u8]) -> Result<usize, Failed>
         ensures within { IfOk result (λ n. n ≤ length buf.new) }
@@ -38,14 +38,14 @@ pub trait Sink {
     /// The bytes taken, where the sink tells them.
     ghost taken: { Self → Option (List ℕ) };
 
-    /// How many writes failed. The count never falls, and may stand still at 2^64 - 1.
+    /// The number of writes that failed. The count never falls, and saturates at 2^64 - 1.
     ghost faults: { Self → ℕ };
 
-    /// So many more bytes are taken before a write fails. A sink that can't promise any leaves this
+    /// The number of bytes that are taken before a write fails. A sink that can't promise any leaves this
     /// out.
     ghost sure_room: { Self → ℕ } = { λ _. 0 };
 
-    /// Takes bytes from the front of the piece, and says how many. Of a piece that isn't empty it
+    /// Takes bytes from the front of the piece, and returns their number. Of a piece that isn't empty it
     /// takes at least one, or fails.
     fn write(&mut self, piece: &[u8]) -> Result<usize, Failed>
         ensures within { IfOk result (λ n. n ≤ length piece.now) }

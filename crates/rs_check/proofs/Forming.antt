@@ -14,7 +14,7 @@ use Rattle.rs_entry.specs.declared.input.Store.{Store}
 use Rattle.rs_store.specs.Formed.{IsFormedOne}
 use Rattle.rs_store.specs.Runs.{IsFormed, line_entry}
 use Rattle.rs_store.specs.Stores.{entry_at as carried_entry, first_some, own, own_next}
-use Rattle.rs_store.specs.declared.readiness.Line.{Line}
+use Rattle.rs_region.specs.declared.line.Line.{Line}
 use Rattle.rs_store.proofs.FormLaws.{formed_store}
 use Rattle.rs_check.specs.Lines.{carried_at, entry_in, line_at, line_in}
 use Rattle.rs_check.proofs.Wellness.{formed_input}

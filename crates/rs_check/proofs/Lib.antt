@@ -1,5 +1,4 @@
 pub mod Addresses
-pub mod Agreement
 pub mod Beginning
 pub mod BirthLaws
 pub mod DifferSteps
@@ -10,7 +9,9 @@ pub mod HomeLines
 pub mod LawSteps
 pub mod LawfulPlans
 pub mod LawfulScripts
+pub mod LeastOverlap
 pub mod MergeLaws
+pub mod OwnLogs
 pub mod PartLaws
 pub mod PlanLaws
 pub mod ReshapingLaws
@@ -22,6 +23,7 @@ pub mod SplitIds
 pub mod Splitting
 pub mod StepLaws
 pub mod StoreEnds
+pub mod StoresFound
 pub mod Telling
 pub mod Wellness
 pub mod WholeStores

@@ -1,5 +1,5 @@
 -- Where the test finds no shared key, no key lies in both ranges.
-use Rattle.std.proofs.Common.{◌≡◌, ℕ, ◌==◌, Bool, true, false, not, ◌&&◌, List, [], ◌∷◌, Option, Some, None, IfSome, refl, ap, sym, ◌∙◌, if◌then◌else◌, Equal, Greater, arith}
+use Rattle.std.proofs.Common.{◌≡◌, ℕ, ◌==◌, Bool, true, false, not, ◌&&◌, List, [], ◌∷◌, Option, Some, None, refl, ap, sym, ◌∙◌, if◌then◌else◌, Equal, Greater, arith}
 use Rattle.std.proofs.lemmas.Bool.{both_ways, and_parts, and_from, not-true, le-ltb}
 use Rattle.std.proofs.Math.Bool.{and_comm}
 use Rattle.std.specs.Ordering.{nat_cmp, is_lt, ordering_then}
@@ -10,11 +10,8 @@ use Rattle.rs_key.proofs.RangeLaws.{below_trans}
 use Rattle.rs_region.proofs.KeyOrder.{below_irreflexive, below_total, not_above, lies_in, holds_is}
 use Rattle.rs_part.specs.Ranges.{Apart}
 use Rattle.rs_check.specs.Laws.{or_least, share_a_key}
+use Rattle.rs_check.specs.Overlaps.{IsBound}
 use Rattle.rs_check.proofs.Finding.{or_none}
-
--- a bound, where it is there, is a key
-abbrev pub IsBound : Option (List ℕ) → Type 0
-IsBound bound = IfSome bound (λ k. is_key k ≡ true)
 
 no_less : (xs : List ℕ) → is_lt (slice_cmp nat_cmp xs []) ≡ false
 no_less [] = refl

@@ -16,7 +16,7 @@ use Rattle.rs_part.specs.Counting.{IsAmong}
 use Rattle.rs_part.specs.Ranges.{EachId}
 use Rattle.rs_part.specs.Telling.{boot_states}
 use Rattle.rs_part.proofs.Members.{among_find, among_all}
-use Rattle.rs_check.proofs.Sharing.{IsBound}
+use Rattle.rs_check.specs.Overlaps.{IsBound}
 
 is_store : (input : Input) → WellFormed input → (store : Store) → IsAmong store input.stores → IsStore input.version store
 is_store input w store i = among_all (IsStore input.version) store input.stores w.stores i

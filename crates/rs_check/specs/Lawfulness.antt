@@ -64,6 +64,7 @@ pub record Target (input : Input) (a target : ℕ) : Type 0 where
   pub accepted : Accepted input b i part entry
   pub body : entry.body ≡ body.Commit (region_of input a) (stop_of input a) carried
 
+-- what holds of the regions of every lawful input
 pub record PlanLaws (input : Input) : Type 0 where
   -- where a region's entries begin and end
   pub starts : (a : ℕ) → a < count_of input → 5 ≤ stop_of input a

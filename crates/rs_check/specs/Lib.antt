@@ -2,6 +2,7 @@ pub mod Laws
 pub mod Lawfulness
 pub mod Lines
 pub mod Namings
+pub mod Overlaps
 pub mod Plans
 pub mod Scripts
 pub mod Statements

@@ -12,14 +12,17 @@ use Rattle.rs_entry.specs.Entries.{entry_of}
 use Rattle.rs_store.specs.Stores.{first_some, own, own_next, entry_at}
 use Rattle.rs_part.specs.Counting.{IsAmong}
 
+-- the entry of the region at the index that the body carries
 abbrev pub carried_by : ℕ → ℕ → Body → Option Carried
 carried_by region index (body.Commit source commit carried) = if source == region then find (λ c. c.index == index) carried else None
 carried_by region index b = None
 
+-- the entry of the region at the index that the first of the entries carries
 abbrev pub carried_in : ℕ → ℕ → List Entry → Option Carried
 carried_in region index [] = None
 carried_in region index (e ∷ es) = first_some (carried_by region index e.body) (carried_in region index es)
 
+-- the entry of the region at the index that the first of the logs carries
 abbrev pub carried_at : ℕ → ℕ → List Log → Option Carried
 carried_at region index [] = None
 carried_at region index (log ∷ logs) = first_some (carried_in region index log.entries) (carried_at region index logs)
@@ -56,7 +59,7 @@ HasEntry store region index e = Owns store region index e ⊎ ((c : Carried) × 
 abbrev pub entry_in : Store → ℕ → ℕ → Option Entry
 entry_in store region index = first_some (own_next (own store region) (index - 1)) (entry_at (carried_at region index store.logs))
 
--- on the store with this id
+-- the region's entry at the index, on the store with this id
 abbrev pub line_in : ℕ → ℕ → ℕ → List Store → Option Entry
 line_in store region index [] = None
 line_in store region index (s ∷ ss) = if s.id == store then entry_in s region index else line_in store region index ss

@@ -10,13 +10,15 @@ use Rattle.rs_check.specs.Laws.{is_id}
 abbrev pub Namings : Type 0
 Namings = ℕ → Option (ℕ × ℕ)
 
--- as the code keeps them
+-- the namings that the code keeps
 abbrev pub namings : Namers → Namings
 namings m id = get nat_cmp m.by_id id
 
+-- no id is named
 abbrev pub no_namings : Namings
 no_namings id = None
 
+-- the namings with one more: the split at this region and index names the id
 abbrev pub with_naming : Namings → ℕ → ℕ → ℕ → Namings
 with_naming f id region index x = if id == x then Some (region, index) else f x
 
@@ -30,7 +32,7 @@ abbrev pub is_there : {X : Type 0} → Option X → Bool
 is_there None = false
 is_there (Some x) = true
 
--- from here on this split named these
+-- the namings after a split that names these ids
 abbrev pub with_namings : Namings → ℕ → ℕ → List ℕ → Namings
 with_namings f region index [] = f
 with_namings f region index (id ∷ ids) = with_namings (with_naming f id region index) region index ids

@@ -30,18 +30,21 @@ row_of store id (Some r) = Some (record {
   reshapings = r.reshapings;
 })
 
--- of the regions with these ids that were made
+-- the rows of those of these regions that were made
 abbrev pub rows_in : Store → ByRegion → List ℕ → List Row
 rows_in store f ids = filter_map (λ id. row_of store id (f id)) ids
 
+-- the rows of the store after this run; none if the run failed
 abbrev pub rows_by : Store → Run → List Row
 rows_by store (Failed fault) = []
 rows_by store (Moved f) = rows_in store f (ids_of store)
 
+-- the rows of the store after this step; none if the step broke a law
 abbrev pub rows_at : Store → Stepped → List Row
 rows_at store (Broke fault) = []
 rows_at store (Went g) = rows_in store g.region (ids_of store)
 
+-- the rows of a store, after its canonical order
 unfoldable pub store_rows : Store → List Row
 store_rows store = rows_at store (last store)
 
@@ -49,6 +52,7 @@ store_rows store = rows_at store (last store)
 unfoldable pub rows_of : Input → List Row
 rows_of input = flat_map store_rows input.stores
 
+-- the row is that of the region in the store
 abbrev pub is_at : ℕ → ℕ → Row → Bool
 is_at store region r = (r.store == store) && (r.region == region)
 
@@ -63,6 +67,7 @@ AreOrdered (x ∷ xs) = AllByRecursion (λ y. is_before y.store y.region x ≡ t
 
 -- ---- what the rows tell, by address
 
+-- the index of the last entry that the region applies
 abbrev pub stop_in : Option Row → ℕ
 stop_in None = 5
 stop_in (Some r) = r.stop
@@ -71,6 +76,7 @@ stop_in (Some r) = r.stop
 abbrev pub stop_of : Input → ℕ → ℕ
 stop_of input a = stop_in (slice_get (rows_of input) a)
 
+-- the number of entries that the region applies from its own log
 abbrev pub own_in : Option Row → ℕ
 own_in None = 0
 own_in (Some r) = r.own
@@ -79,6 +85,7 @@ own_in (Some r) = r.own
 abbrev pub own_of : Input → ℕ → ℕ
 own_of input a = own_in (slice_get (rows_of input) a)
 
+-- the mode in which the region ends
 abbrev pub ends_in : Option Row → Mode
 ends_in None = modes.Normal
 ends_in (Some r) = r.ends
@@ -87,6 +94,7 @@ ends_in (Some r) = r.ends
 abbrev pub ends_of : Input → ℕ → Mode
 ends_of input a = ends_in (slice_get (rows_of input) a)
 
+-- the indexes of the entries that reshape the region
 abbrev pub reshapings_in : Option Row → List ℕ
 reshapings_in None = []
 reshapings_in (Some r) = r.reshapings
@@ -95,14 +103,17 @@ reshapings_in (Some r) = r.reshapings
 abbrev pub reshapings_of : Input → ℕ → List ℕ
 reshapings_of input a = reshapings_in (slice_get (rows_of input) a)
 
+-- made by a split of the region in the row, or at boot if there is no such row
 abbrev pub split_off : Option ℕ → ℕ → Maker
 split_off None index = makers.Boot
 split_off (Some parent) index = makers.Split parent index
 
+-- what made a region of the store, with the parent as a row
 abbrev pub made_by : List Row → ℕ → Origin → Maker
 made_by rows store origins.Boot = makers.Boot
 made_by rows store (origins.Split parent index) = split_off (position (is_at store parent) rows) index
 
+-- what made the row's region
 abbrev pub maker_in : List Row → Option Row → Maker
 maker_in rows None = makers.Boot
 maker_in rows (Some r) = made_by rows r.store r.origin
@@ -111,6 +122,7 @@ maker_in rows (Some r) = made_by rows r.store r.origin
 abbrev pub maker_of : Input → ℕ → Maker
 maker_of input a = maker_in (rows_of input) (slice_get (rows_of input) a)
 
+-- the row's store and region
 abbrev pub address_in : Option Row → ℕ × ℕ
 address_in None = (0, 0)
 address_in (Some r) = (r.store, r.region)

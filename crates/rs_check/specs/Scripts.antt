@@ -17,6 +17,7 @@ entry_said (said.Boot b) = None
 entry_said (said.Entry e) = Some e
 entry_said (said.Carried c) = Some (entry_of c)
 
+-- the entry that the statement states, if it states one
 abbrev pub line_by : Option Stated → Option Entry
 line_by None = None
 line_by (Some s) = entry_said s.what
@@ -25,6 +26,7 @@ line_by (Some s) = entry_said s.what
 abbrev pub names : ℕ → Stated → Bool
 names id s = list_any (is_id id) (ids_said s.what)
 
+-- a region is born by the split that names it, or never
 abbrev pub split_birth : Option Stated → Birth
 split_birth None = Never
 split_birth (Some s) = SplitOff s.region s.index

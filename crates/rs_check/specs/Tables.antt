@@ -8,6 +8,7 @@ use Rattle.rs_store.specs.Stores.{is_live}
 abbrev pub owns : List ℕ → RegionState → Bool
 owns key state = is_live state.mode && holds state.range key
 
+-- the id of the state's region
 abbrev pub region_of : Option RegionState → Option ℕ
 region_of None = None
 region_of (Some state) = Some state.region

@@ -1,5 +1,5 @@
 -- What a plan's regions are at each index, by address.
-use Rattle.std.specs.Prelude.{ℕ, zero, suc, ◌+◌, ◌==◌, leb, List, [], ◌++◌, map, filter, length, Option, Some, None}
+use Rattle.std.specs.Prelude.{ℕ, zero, suc, ◌+◌, ◌==◌, leb, List, [], ◌++◌, map, filter, length, Option, Some, None, position, unwrap_or}
 use Rattle.std.specs.List.{find}
 use Rattle.rs_entry.specs.declared.entry.Entry.{Entry}
 use Rattle.rs_entry.specs.declared.input.Input.{Input}
@@ -24,6 +24,11 @@ region_of input a = (address_of input a).1
 abbrev pub store_at : Input → ℕ → Option Store
 store_at input a = find (λ s. s.id == (address_of input a).0) input.stores
 
+-- the place of the address's store among the input's stores, counted from 0
+abbrev pub store_place : Input → ℕ → ℕ
+store_place input a = unwrap_or (position (λ s. s.id == (address_of input a).0) input.stores) 0
+
+-- the part of the region in the store once it has applied the index
 abbrev pub part_in : Option Store → ℕ → ℕ → Option Part
 part_in None region index = None
 part_in (Some store) region index = at store region index
@@ -47,6 +52,7 @@ abbrev pub reply_by : Option Part → Option Entry → Option Part → List Repl
 reply_by (Some v) (Some e) (Some w) = reply_to (verdict v.state e) e.body w.state
 reply_by v e w = []
 
+-- the replies of the entry, each with the region and the index
 abbrev pub reply_lines : ℕ → ℕ → List Reply → List ReplyLine
 reply_lines region index replies = map (λ y. record { region = region; index = index; reply = y }) replies
 

@@ -17,7 +17,7 @@ pub struct Differing {
     pub second: usize,
 }
 
-/// The fault of the first statement that differs from an earlier one about the same.
+/// Returns the fault of the first statement that differs from an earlier one about the same.
 pub fn differ_law(alloc: Global, all: &[Said<'_>]) -> Result<Option<LawFault>, NoMemory>
     ensures { IfOk result (λ fault. fault ≡ option_map differ_fault (first_differ [] all.now)) }
 {
@@ -27,7 +27,7 @@ pub fn differ_law(alloc: Global, all: &[Said<'_>]) -> Result<Option<LawFault>, N
     }
 }
 
-/// The fault of the two statements at these places.
+/// Returns the fault of the two statements at these places.
 fn told(all: &[Said<'_>], d: Differing) -> Result<Option<LawFault>, NoMemory>
     ensures { IfOk result (λ fault. fault ≡ option_map differ_fault (told_pair all.now (Some d))) }
 {
@@ -59,7 +59,7 @@ fn same(a: &Said<'_>, b: &Said<'_>) -> bool
     is_same(a.what, b.what)
 }
 
-/// The places of the first statement that differs from an earlier one about the same, and of that one.
+/// Returns the places of the first statement that differs from an earlier one about the same, and of that one.
 fn first_differ(alloc: Global, all: &[Said<'_>]) -> Result<Option<Differing>, NoMemory>
     ensures { IfOk result (λ d. told_pair all.now d ≡ first_differ [] all.now) }
 {

@@ -31,7 +31,7 @@ pub struct Home {
     pub merger: Option<EntryPlace>,
 }
 
-/// The homes of the regions with these rows.
+/// Returns the homes of the regions with these rows.
 pub fn homes_of(alloc: Global, input: &Input, rows: &[Row]) -> Result<Vec<Home>, NoMemory>
     requires { AreOrdered rows.now }
 {
@@ -46,7 +46,7 @@ pub fn homes_of(alloc: Global, input: &Input, rows: &[Row]) -> Result<Vec<Home>,
     Ok(homes)
 }
 
-/// The places of the region's store and of its log.
+/// Returns the places of the region's store and of its log.
 fn own_home(stores: &[Store], row: &Row) -> Home {
     let store = stores.partition_point(|store| store.id < row.store);
     Home {
@@ -100,7 +100,7 @@ fn find_merged(stores: &[Store], rows: &[Row], target: usize, homes: &mut [Home]
     }
 }
 
-/// The source of the commit that stands there.
+/// Returns the source of the commit that stands there.
 fn source_at(log: &Log, entry: usize) -> Option<u64> {
     match &log.entries.as_slice().get(entry)?.body {
         Body::Commit { source, .. } => Some(*source),
@@ -108,7 +108,7 @@ fn source_at(log: &Log, entry: usize) -> Option<u64> {
     }
 }
 
-/// The region's entry at the index, where it stands at this home.
+/// Returns the region's entry at the index, where it stands at this home.
 pub fn line_near<'a>(store: &'a Store, home: &Home, region: u64, index: u64) -> Option<Line<'a>>
     requires { 0 < index }
     ensures { IfSome result (λ line. HasEntry store.now region index (line_entry line)) }
@@ -178,7 +178,7 @@ fn carried_by(body: &Body, region: u64, index: u64) -> Option<&Carried>
     }
 }
 
-/// The carried entry of the index, by the distance from the first.
+/// Returns the carried entry of the index, by the distance from the first.
 fn numbered(carried: &[Carried], index: u64) -> Option<&Carried>
     ensures { IfSome result (λ one. IsAmong one.now carried.now × (one.now.index ≡ index)) }
 {

@@ -49,7 +49,7 @@ fn carried_at(region: u64, index: u64, logs: &[Log]) -> Option<&Carried>
     None
 }
 
-/// The region's entry at the index, on the store.
+/// Returns the region's entry at the index, on the store.
 pub fn entry_in(store: &Store, region: u64, index: u64) -> Option<Line<'_>>
     requires rising { AreRising (log_ids store.now) }
     requires from { 0 < index }
@@ -64,7 +64,7 @@ pub fn entry_in(store: &Store, region: u64, index: u64) -> Option<Line<'_>>
     }
 }
 
-/// The region's entry at the index, on the store with this id.
+/// Returns the region's entry at the index, on the store with this id.
 pub fn line_of(stores: &[Store], store: u64, region: u64, index: u64) -> Option<Line<'_>>
     requires rising { All (λ s. AreRising (log_ids s)) stores.now }
     requires from { 0 < index }

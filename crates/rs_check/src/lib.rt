@@ -8,6 +8,7 @@
 mod differ;
 mod entry_index;
 mod entry_scan;
+mod laws;
 mod log_check;
 mod overlap;
 mod plan;
@@ -16,6 +17,7 @@ mod reused_ids;
 mod rows;
 mod statements;
 
+pub use laws::overlap_laws;
 pub use log_check::{CheckError, check};
 pub use plan::{Maker, Plan};
 pub use region_table::RegionTable;

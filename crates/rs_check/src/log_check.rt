@@ -18,7 +18,7 @@ use rs_store::{StepFault, StoreFault, StoreRun, run_store};
 use std::alloc::Global;
 use thiserror::Error;
 
-/// Why an input has no plan.
+/// The error of an input that has no plan.
 #[derive(Debug, Drop, Error)]
 pub enum CheckError {
     /// The first thing that no lawful group could have committed.
@@ -29,7 +29,7 @@ pub enum CheckError {
     NoMemory,
 }
 
-/// The plan of a lawful input.
+/// Returns the plan of a lawful input.
 ///
 /// Law comes exactly where the input has a fault, with its first. The input is spent on a refusal.
 pub fn check(input: Input) -> Result<Plan, CheckError>
@@ -49,7 +49,7 @@ pub fn check(input: Input) -> Result<Plan, CheckError>
     }
 }
 
-/// The first fault of the input. Where there is none the rows of its regions are added.
+/// Returns the first fault of the input. If there is none, adds the rows of its regions.
 #[tactic(auto, unfolding(crate::specs::Laws::check, crate::specs::Plans::rows_of))]
 fn law_fault(
     alloc: Global,
@@ -75,7 +75,7 @@ fn law_fault(
     Ok(run_stores(alloc, rows, input.stores.as_slice())?)
 }
 
-/// The first fault of the stores' orders. Where there is none the rows of their regions are added.
+/// Returns the first fault of the stores' orders. If there is none, adds the rows of their regions.
 fn run_stores(
     alloc: Global,
     rows: &mut Vec<Row>,
@@ -93,7 +93,7 @@ fn run_stores(
     Ok(None)
 }
 
-/// The fault of the store's order. Where there is none the rows of its regions are added.
+/// Returns the fault of the store's order. If there is none, adds the rows of its regions.
 #[tactic(auto, using(crate::proofs::PlanLaws::store_rows_moved), unfolding(crate::specs::Laws::store_law))]
 fn run_one(alloc: Global, rows: &mut Vec<Row>, store: &Store) -> Result<Option<LawFault>, NoMemory>
     requires { IsFormedOne store.now }

@@ -101,7 +101,7 @@ fn least_with<'a>(
     best
 }
 
-/// The fault of the pair of the least ids whose ranges share a key.
+/// Returns the fault of the pair of the least ids whose ranges share a key.
 pub fn overlap_law(alloc: Global, roots: &[Root<'_>]) -> Result<Option<LawFault>, NoMemory>
     ensures { IfOk result (λ fault. fault ≡ option_map overlap_fault (first_overlap roots.now)) }
 {
@@ -115,7 +115,7 @@ pub fn overlap_law(alloc: Global, roots: &[Root<'_>]) -> Result<Option<LawFault>
     }
 }
 
-/// The least key.
+/// Returns the least key.
 fn least_key(alloc: Global) -> Result<Key, NoMemory>
     ensures { IfOk result (λ key. key ≡ or_least None) }
 {
@@ -125,7 +125,7 @@ fn least_key(alloc: Global) -> Result<Key, NoMemory>
     }
 }
 
-/// The pair of the least ids whose ranges share a key.
+/// Returns the pair of the least ids whose ranges share a key.
 fn first_overlap<'a>(all: &[Root<'a>], first: &Key) -> Option<Both<'a>>
     requires { first.now ≡ or_least None }
     ensures { result ≡ first_overlap all.now }
@@ -155,7 +155,7 @@ fn add_stores<'a>(roots: &mut Vec<Root<'a>>, stores: &'a [Store]) -> Result<(), 
     Ok(())
 }
 
-/// The boots of all stores.
+/// Returns the boots of all stores.
 pub fn boots<'a>(alloc: Global, input: &'a Input) -> Result<Vec<Root<'a>>, NoMemory>
     ensures { IfOk result (λ roots. roots.items ≡ boots input.now) }
 {

@@ -1,4 +1,4 @@
-ghost use Rattle.std.specs.Prelude.{◌≡◌, ℕ, ◌+◌, ◌-◌, ◌<◌, ◌≤◌, ◌^◌, Option, Some, None, length, slice_get, IfOk, IfSome, position};
+ghost use Rattle.std.specs.Prelude.{◌≡◌, ◌==◌, ℕ, ◌+◌, ◌-◌, ◌<◌, ◌≤◌, ◌^◌, Option, Some, None, length, slice_get, IfOk, IfSome, position};
 ghost use Rattle.std.specs.Option.{option_copied, option_map};
 ghost use Rattle.rs_entry.specs.WellFormed.{WellFormed};
 ghost use Rattle.rs_store.specs.Runs.{IsFormed, line_entry};
@@ -6,6 +6,7 @@ ghost use Rattle.rs_check.specs.Laws.{check};
 ghost use Rattle.rs_check.specs.Lawfulness.{PlanLaws, StoresAgree};
 ghost use Rattle.rs_check.specs.Lines.{line_at};
 ghost use Rattle.rs_check.specs.Plans.{rows_of, is_at, stop_of, own_of, ends_of, maker_of, address_of, reshapings_of, made_by};
+ghost use Rattle.rs_check.specs.Values.{store_place};
 
 use crate::entry_index::{Home, homes_of, line_near};
 use crate::entry_scan::line_of;
@@ -15,10 +16,10 @@ use rs_key::NoMemory;
 use rs_store::{Line, Origin};
 use std::marker::Model;
 
-/// How a region of a plan came to be.
+/// The origin of a region of a plan.
 #[derive(Clone, Copy, Debug, PartialEq, Eq)]
 pub enum Maker {
-    /// It is there from the start.
+    /// The region is a boot region.
     Boot,
     /// The entry of the region at the parent's address, at the index, split it off.
     Split { parent: u32, index: u64 },
@@ -50,7 +51,7 @@ impl Model for Plan {
 }
 
 impl Plan {
-    /// The plan of a lawful input with these rows. So many that an address couldn't be a `u32` count as want of memory.
+    /// Returns the plan of a lawful input with these rows. More rows than a `u32` can count are want of memory.
     pub(crate) fn new(input: Input, rows: Vec<Row>) -> Result<Plan, NoMemory>
         requires rows { rows.items ≡ rows_of input }
         requires lawful { check input ≡ None }
@@ -64,6 +65,7 @@ impl Plan {
         Ok(Plan { input, rows, homes })
     }
 
+    /// Returns the lawful input that the plan was made of.
     pub fn input(&self) -> &Input
         ensures value { result.now ≡ self.now }
         ensures lawful { check self.now ≡ None }
@@ -72,7 +74,7 @@ impl Plan {
         &self.input
     }
 
-    /// What holds of the regions of every lawful plan. It does nothing: its contract tells it.
+    /// States what holds of the regions of every lawful plan. It does nothing: its contract tells it.
     #[tactic(auto, using(crate::proofs::LawfulPlans::plan_laws))]
     pub fn laws(&self)
         ensures { PlanLaws self.now }
@@ -80,7 +82,8 @@ impl Plan {
         let _ = &self.input;
     }
 
-    /// A region's part at an index is the same on each store that it has come to the index on. It does nothing: its contract tells it.
+    /// States that a region's part at an index is the same on each store that it has come to the index on. It does
+    /// nothing: its contract tells it.
     #[tactic(auto, using(crate::proofs::LawfulPlans::stores_agree))]
     pub fn agree(&self)
         ensures { StoresAgree self.now }
@@ -88,14 +91,23 @@ impl Plan {
         let _ = &self.input;
     }
 
-    /// How many addresses there are.
+    /// How many stores there are: at most 64.
+    pub fn stores(&self) -> u32
+        ensures count { result ≡ length self.now.stores }
+        ensures few { result ≤ 64 }
+    {
+        self.input().stores.len() as u32
+    }
+
+    /// Returns how many addresses there are.
     pub fn count(&self) -> u32
         ensures { result ≡ length (rows_of self.now) }
     {
         self.rows.len() as u32
     }
 
-    /// The address of the region on the store, found by search. None exactly where the region is never made there.
+    /// Returns the address of the region on the store, found by search. `None` exactly where the region is never made
+    /// there.
     pub fn find(&self, store: u64, region: u64) -> Option<u32>
         ensures { result ≡ position (is_at store region) (rows_of self.now) }
     {
@@ -112,7 +124,7 @@ impl Plan {
         &self.rows[a as usize]
     }
 
-    /// The ids of the store and of the region.
+    /// Returns the ids of the store and of the region.
     pub fn address(&self, a: u32) -> (u64, u64)
         requires { a < length (rows_of self.now) }
         ensures { result ≡ address_of self.now a }
@@ -121,7 +133,20 @@ impl Plan {
         (row.store, row.region)
     }
 
-    /// How the region came to be.
+    /// The place of the address's store among the plan's stores, counted from 0.
+    pub fn place(&self, a: u32) -> u32
+        requires { a < length (rows_of self.now) }
+        ensures place { result ≡ store_place self.now a }
+        ensures within { result < length self.now.stores }
+    {
+        let (store, _) = self.address(a);
+        match place_of_store(self.input(), store) {
+            None => 0,
+            Some(place) => place as u32,
+        }
+    }
+
+    /// Returns how the region came to be.
     pub fn maker(&self, a: u32) -> Maker
         requires { a < length (rows_of self.now) }
         ensures { result ≡ maker_of self.now a }
@@ -136,7 +161,7 @@ impl Plan {
         }
     }
 
-    /// The index of the last entry that the region applies; `INIT_INDEX` where there is none.
+    /// Returns the index of the last entry that the region applies; `INIT_INDEX` if it applies none.
     pub fn stop(&self, a: u32) -> u64
         requires { a < length (rows_of self.now) }
         ensures { result ≡ stop_of self.now a }
@@ -144,15 +169,17 @@ impl Plan {
         self.row(a).stop
     }
 
-    /// How many entries the store's own log of the region has.
+    /// How many entries the store's own log of the region has: at most 1,048,576.
     pub fn own(&self, a: u32) -> u64
         requires { a < length (rows_of self.now) }
-        ensures { result ≡ own_of self.now a }
+        ensures value { result ≡ own_of self.now a }
+        ensures few { result ≤ 1048576 }
     {
+        let _ = self.input();
         self.row(a).own
     }
 
-    /// The region's mode after its last entry.
+    /// Returns the region's mode after its last entry.
     pub fn ends(&self, a: u32) -> Mode
         requires { a < length (rows_of self.now) }
         ensures { result ≡ ends_of self.now a }
@@ -160,7 +187,8 @@ impl Plan {
         self.row(a).ends
     }
 
-    /// The region's entry at the index: that of the store's own log, else the first that one of its commits carries.
+    /// Returns the region's entry at the index: that of the store's own log, else the first that one of its commits
+    /// carries.
     pub fn entry(&self, a: u32, index: u64) -> Option<Line<'_>>
         requires address { a < length (rows_of self.now) }
         requires index { 6 ≤ index }
@@ -174,7 +202,7 @@ impl Plan {
         }
     }
 
-    /// The entry, where it stands at the region's home.
+    /// Returns the entry, where it stands at the region's home.
     fn entry_near(&self, a: u32, index: u64) -> Option<Line<'_>>
         requires address { a < length (rows_of self.now) }
         requires index { 6 ≤ index }
@@ -191,7 +219,7 @@ impl Plan {
         line_near(store, home, region, index)
     }
 
-    /// The entry, looked for in all logs of the region's store.
+    /// Returns the entry, looked for in all logs of the region's store.
     #[tactic(auto, using(crate::proofs::Wellness::rising_logs))]
     fn entry_anywhere(&self, a: u32, index: u64) -> Option<Line<'_>>
         requires address { a < length (rows_of self.now) }
@@ -202,7 +230,7 @@ impl Plan {
         line_of(self.input.stores.as_slice(), store, region, index)
     }
 
-    /// How many splits, prepares, commits, rollbacks and changes of peers the region accepts.
+    /// Returns how many splits, prepares, commits, rollbacks and changes of peers the region accepts.
     pub fn reshapings(&self, a: u32) -> u64
         requires { a < length (rows_of self.now) }
         ensures { result ≡ length (reshapings_of self.now a) }
@@ -210,7 +238,7 @@ impl Plan {
         self.row(a).reshapings.len() as u64
     }
 
-    /// The index of the nth of these entries, counted from 1.
+    /// Returns the index of the nth of these entries, counted from 1.
     pub fn reshaping(&self, a: u32, nth: u64) -> u64
         requires address { a < length (rows_of self.now) }
         requires from { 1 ≤ nth }
@@ -225,4 +253,12 @@ fn store_at(input: &Input, place: usize) -> Option<&Store>
     ensures { option_copied result ≡ slice_get input.now.stores place }
 {
     input.stores.as_slice().get(place)
+}
+
+fn place_of_store(input: &Input, store: u64) -> Option<usize>
+    requires { length input.now.stores ≤ 64 }
+    ensures place { result ≡ position (λ s. s.id == store) input.now.stores }
+    ensures within { IfSome result (λ place. place < length input.now.stores) }
+{
+    input.stores.as_slice().iter().position(|s| s.id == store)
 }

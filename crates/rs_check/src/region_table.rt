@@ -23,28 +23,29 @@ impl Model for RegionTable {
 }
 
 impl RegionTable {
-    /// The table of these states. It takes no memory.
+    /// Returns the table of these states. It takes no memory.
     pub fn from_rows(rows: Rows<RegionState>) -> RegionTable
         ensures { result ≡ rows }
     {
         RegionTable { rows }
     }
 
-    /// The states without a copy.
+    /// Returns the states without a copy.
     pub fn into_rows(self) -> Rows<RegionState>
         ensures { result ≡ self }
     {
         self.rows
     }
 
-    /// The states of the regions.
+    /// Returns the states of the regions.
     pub fn rows(&self) -> &[RegionState]
         ensures { result.now ≡ self.now }
     {
         self.rows.as_slice()
     }
 
-    /// The live region that holds the key: the first, where there could be several. None exactly where none does.
+    /// Returns the live region that holds the key: the first, where there could be several. `None` exactly where none
+    /// does.
     pub fn find(&self, key: &Key) -> Option<u64>
         ensures { result ≡ owner self.now key.now }
     {

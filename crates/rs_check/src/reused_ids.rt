@@ -11,7 +11,7 @@ use rs_key::NoMemory;
 use std::alloc::Global;
 use std::collections::BTreeMap;
 
-/// Which split named an id first.
+/// The split that named each id first.
 #[derive(Drop)]
 pub struct Namers {
     by_id: BTreeMap<u64, (u64, u64)>,
@@ -73,7 +73,7 @@ fn is_reused(
     boots.get(id).is_some() || (has(before, id) || is_other(region, index, names.get(id)))
 }
 
-/// The first id that is reused, of these from a place on.
+/// Returns the first id that is reused, of these from a place on.
 fn reused_id(boots: &Namers, names: &Namers, region: u64, index: u64, ids: &[u64]) -> Option<u64>
     ensures { result ≡ reused_by (namings boots.now) (namings names.now) region index [] ids.now }
 {
@@ -117,7 +117,7 @@ fn boot_ids(alloc: Global, roots: &[Root<'_>]) -> Result<Namers, NoMemory>
     Ok(boots)
 }
 
-/// The first split that names an id which is a bootstrap id or was named before.
+/// Returns the first split that names an id which is a bootstrap id or was named before.
 pub fn first_reused(
     alloc: Global,
     roots: &[Root<'_>],

@@ -8,7 +8,7 @@ use rs_entry::Mode;
 use rs_key::{NoMemory, Rows, TryClone};
 use rs_store::{IndexedStore, Made, Origin, Regions};
 
-/// What a plan keeps of a region on a store.
+/// The row of a plan for a region on a store.
 #[derive(Debug, Drop)]
 pub struct Row {
     pub store: u64,
@@ -16,7 +16,7 @@ pub struct Row {
     pub origin: Origin,
     /// The index of the last entry applied.
     pub stop: u64,
-    /// How many entries the store's own log of the region has.
+    /// The number of entries that the store's own log of the region has.
     pub own: u64,
     pub ends: Mode,
     /// The indexes of its accepted reshapings.
@@ -70,7 +70,7 @@ pub fn add_rows(
     Ok(())
 }
 
-/// The place of the region's row, in rows by store and region.
+/// Returns the place of the region's row, in rows by store and region.
 pub fn place_of(rows: &[Row], store: u64, region: u64) -> Option<usize>
     requires { AreOrdered rows.now }
     ensures place { result ≡ position (is_at store region) rows.now }
@@ -98,7 +98,7 @@ fn is_at(row: &Row, store: u64, region: u64) -> bool
     row.store == store && row.region == region
 }
 
-/// The place of the first row that isn't before the region's.
+/// Returns the place of the first row that isn't before the region's.
 fn first_from(rows: &[Row], store: u64, region: u64) -> usize
     requires { AreOrdered rows.now }
     ensures { IsPartitionPoint (λ r. is_before store region r ≡ true) (λ r. is_before store region r ≡ false) rows.now result }

@@ -7,7 +7,7 @@ use rs_key::{NoMemory, Same, TryClone};
 use std::alloc::Global;
 use std::marker::Model;
 
-/// What a statement says.
+/// The content of a statement.
 #[derive(Clone, Copy)]
 pub enum What<'a> {
     Boot(&'a Boot),
@@ -15,7 +15,7 @@ pub enum What<'a> {
     Carried(&'a Carried),
 }
 
-/// What a store says of a region, or of an entry of its log; the index is 0 where it is said of the region.
+/// A statement of a store about a region, or about an entry of its log. The index is 0 if it is about the region.
 #[derive(Drop)]
 pub struct Said<'a> {
     pub store: u64,
@@ -32,7 +32,7 @@ impl<'a> Model for Said<'a> {
     ghost view = { λ s. record { store = s.store; region = s.region; index = s.index; what = said_of s.what } };
 }
 
-/// Whether two statements about the same say the same.
+/// Returns whether two statements about the same say the same.
 pub fn is_same(a: What<'_>, b: What<'_>) -> bool
     ensures { result ≡ same_statements (said_of a.entry) (said_of b.entry) }
 {
@@ -46,7 +46,7 @@ pub fn is_same(a: What<'_>, b: What<'_>) -> bool
     }
 }
 
-/// A copy of what is said.
+/// Returns a copy of what is said.
 pub fn statement_of(what: What<'_>) -> Result<Statement, NoMemory>
     ensures { IfOk result (λ s. s ≡ said_of what.entry) }
 {
@@ -154,7 +154,7 @@ fn add_stores<'a>(all: &mut Vec<Said<'a>>, stores: &'a [Store]) -> Result<(), No
     Ok(())
 }
 
-/// What the input states, in order.
+/// Returns what the input states, in order.
 pub fn stated<'a>(alloc: Global, input: &'a Input) -> Result<Vec<Said<'a>>, NoMemory>
     ensures { IfOk result (λ all. all.items ≡ stated input.now) }
 {

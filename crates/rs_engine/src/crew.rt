@@ -31,7 +31,7 @@ pub struct Seats<'r, 'p> {
     ghost control_plans: { All (λ seat. seat.plan.now ≡ plan.now) control.items },
 }
 
-/// All that works on a run: the workers of both pools, and what its main thread works with.
+/// The workers of a run: those of both pools, and the main thread.
 #[derive(Drop)]
 pub struct Crew<'r, 'p> {
     pub peers: Vec<PeerWorker<'r, 'p>>,
@@ -67,7 +67,7 @@ impl<'r, 'p> Seats<'r, 'p> {
     }
 }
 
-/// The last of the seats.
+/// Returns the last of the seats.
 fn next_seat<'r, 'p, F: Machine>(
     plan: &'p Plan,
     seats: &mut Vec<Seat<'r, 'p, F>>,
@@ -81,7 +81,7 @@ fn next_seat<'r, 'p, F: Machine>(
     seats.pop().unwrap()
 }
 
-/// A poller at the peer machines, which sends to the apply machines.
+/// Returns a poller at the peer machines, which sends to the apply machines.
 fn peer_poller<'r, 'p>(
     alloc: Global,
     seat: Seat<'r, 'p, PeerFsm<'p>>,
@@ -107,7 +107,7 @@ fn peer_poller<'r, 'p>(
     )
 }
 
-/// A poller at the apply machines, which sends to machines of all kinds.
+/// Returns a poller at the apply machines, which sends to machines of all kinds.
 fn apply_poller<'r, 'p>(
     alloc: Global,
     seat: Seat<'r, 'p, ApplyFsm<'p>>,
@@ -137,7 +137,7 @@ fn apply_poller<'r, 'p>(
     )
 }
 
-/// The poller at the control machines. It begins with what they have to tell at the start.
+/// Returns the poller at the control machines. It begins with what they have to tell at the start.
 fn control_poller<'r, 'p>(
     seat: Seat<'r, 'p, StoreFsm<'p>>,
     out: ControlOut,
@@ -213,8 +213,8 @@ fn apply_workers<'r, 'p>(
     Ok(workers)
 }
 
-/// What the main thread works with: three seats of each kind, and what the control machines have to tell at the
-/// start. It is worker 0.
+/// Returns what the main thread works with: three seats of each kind, and what the control machines have to tell at
+/// the start. It is worker 0.
 fn main_thread<'r, 'p>(
     alloc: Global,
     seats: Seats<'r, 'p>,

@@ -8,7 +8,7 @@ use rs_key::NoMemory;
 use rs_peer::PeerFsm;
 use std::sync::Wait;
 
-/// By which the main thread tells the peer machines of their logs.
+/// The main thread's deliveries of the logs to the peer machines.
 #[derive(Drop)]
 pub struct Telling<'r, 'p> {
     pub deliveries: Deliveries<'p>,

@@ -18,7 +18,7 @@ use std::alloc::Global;
 use std::sync::Wait;
 use std::{mem, thread};
 
-/// What the main thread of the run works with.
+/// The main thread of the run.
 ///
 /// It tells the peer machines of their logs, serves all three kinds of machines, and takes the control machines once
 /// they are complete.
@@ -27,7 +27,7 @@ pub struct MainThread<'r, 'p> {
     pub plan: &'p Plan,
     pub telling: Telling<'r, 'p>,
     pub taking: Taking<'r, 'p>,
-    /// By which it closes mailboxes of apply machines.
+    /// The seat by which it closes mailboxes of apply machines.
     pub applies_seat: Seat<'r, 'p, ApplyFsm<'p>>,
     pub peers: PeerPoller<'r, 'p>,
     pub applies: ApplyPoller<'r, 'p>,
@@ -95,7 +95,7 @@ impl<'r, 'p> MainThread<'r, 'p> {
         unreachable!()
     }
 
-    /// One turn of everything. Whether there was anything to do.
+    /// Takes one turn at everything, and returns whether there was anything to do.
     fn turn<R: Wait, G: Gate>(&mut self, rt: &R, alloc: Global, gate: &G) -> Result<bool, NoMemory>
         ensures { self.new.plan ≡ self.old.plan }
     {
@@ -135,7 +135,7 @@ impl<'r, 'p> MainThread<'r, 'p> {
     }
 }
 
-/// What the control machines have told since the last call.
+/// Returns what the control machines have told since the last call.
 fn take_out<'r, 'p>(alloc: Global, poller: &mut ControlPoller<'r, 'p>) -> ControlOut
     ensures plan { poller.new.worker.handler.plan ≡ poller.old.worker.handler.plan }
     ensures out { FitsControl poller.old.worker.handler.plan.now result }

@@ -3,7 +3,7 @@ ghost use Rattle.rs_engine.specs.Limits.{AreWithin};
 
 use std::marker::Model;
 
-/// How a run is shared out. Contracts see its four numbers: raft pollers, apply pollers, batch and chunk.
+/// The options of a run. Contracts see its four numbers: raft pollers, apply pollers, batch and chunk.
 #[derive(Clone, Copy, Debug, PartialEq, Eq)]
 pub struct Options {
     raft_pollers: u32,
@@ -26,8 +26,8 @@ impl Model for Options {
 }
 
 impl Options {
-    /// None exactly where a number is outside its limits: 1 to 16 pollers of each pool, a batch of 1 to 256 messages and
-    /// entries, and a chunk of 1 to 65,536 entries.
+    /// Returns the options; `None` exactly where a number is outside its limits: 1 to 16 pollers of each pool, a batch
+    /// of 1 to 256 messages and entries, and a chunk of 1 to 65,536 entries.
     pub fn new(raft_pollers: u32, apply_pollers: u32, batch: u32, chunk: u32) -> Option<Options>
         ensures { MatchOption result (¬ AreWithin raft_pollers apply_pollers batch chunk) (λ o. AreWithin raft_pollers apply_pollers batch chunk × (o ≡ (raft_pollers, apply_pollers, batch, chunk))) }
     {
@@ -46,6 +46,7 @@ impl Options {
         })
     }
 
+    /// Returns the number of raft pollers: at most 16.
     pub fn raft_pollers(&self) -> u32
         ensures number { result ≡ self.now.0 }
         ensures few { result ≤ 16 }
@@ -53,6 +54,7 @@ impl Options {
         self.raft_pollers
     }
 
+    /// Returns the number of apply pollers: at most 16.
     pub fn apply_pollers(&self) -> u32
         ensures number { result ≡ self.now.1 }
         ensures few { result ≤ 16 }

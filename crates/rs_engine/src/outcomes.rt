@@ -10,7 +10,7 @@ use rs_meta::StoreFsm;
 use std::alloc::Global;
 use std::sync::Wait;
 
-/// By which the main thread takes the control machines, and the outcomes that it has of them.
+/// The main thread's seat at the control machines, and the outcomes that it has taken from them.
 #[derive(Drop)]
 pub struct Taking<'r, 'p> {
     pub seat: Seat<'r, 'p, StoreFsm<'p>>,
@@ -42,7 +42,7 @@ impl<'r, 'p> Taking<'r, 'p> {
         self.seat.idle(rt);
     }
 
-    /// The plan's outcome, once each store's is there.
+    /// Returns the plan's outcome, once each store's is there.
     pub fn into_outcome(self, alloc: Global) -> Result<Outcome, NoMemory>
         requires { AreThere self.gathered.outcomes.items }
         ensures { IfOk result (λ outcome. outcome ≡ outcome_of self.entry.seat.plan.now) }

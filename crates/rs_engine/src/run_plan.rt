@@ -20,8 +20,8 @@ use std::sync::Wait;
 use std::thread;
 use std::thread::Threads;
 
-/// What comes of a plan's logs, by pollers in threads of their own and in this one: the outcome that one thread gives
-/// that folds the logs in order.
+/// Returns what comes of a plan's logs, by pollers in new threads and in this one: the outcome that one
+/// thread gives that folds the logs in order.
 ///
 /// It waits for its workers. A thread that can't be started is no error: its worker is dropped, and this thread has a
 /// seat at the same machines.
@@ -39,7 +39,8 @@ pub fn run<R: Threads + Wait + Sync, G: Gate>(
     run_on(rt, alloc, plan, options, gate, raft, apply)
 }
 
-/// [`run`] by given schedulers of the two pools, each with so many new passes as the options say.
+/// Runs the plan as [`run`] does, by given schedulers of the two pools. Each has as many new passes as the options ask
+/// for.
 pub fn run_on<R: Threads + Wait + Sync, G: Gate>(
     rt: &R,
     alloc: Global,
@@ -80,7 +81,7 @@ pub fn run_on<R: Threads + Wait + Sync, G: Gate>(
     start(rt, alloc, gate, &routers, crew)
 }
 
-/// How many stores the plan has. More than fit into 32 bits count as want of memory.
+/// Returns how many stores the plan has. More than fit into 32 bits count as want of memory.
 fn count_stores(plan: &Plan) -> Result<u32, NoMemory>
     ensures { IfOk result (λ count. count ≡ length plan.now.stores) }
 {
@@ -90,7 +91,7 @@ fn count_stores(plan: &Plan) -> Result<u32, NoMemory>
     }
 }
 
-/// Starts the workers in threads of their own, and works in this one until the outcome is there. All threads have ended
+/// Starts the workers in new threads, and works in this one until the outcome is there. All threads have ended
 /// then.
 fn start<'r, 'p, R: Threads + Wait + Sync, G: Gate>(
     rt: &R,

@@ -80,7 +80,7 @@ fn serve<'r, F: Fsm, H: Handler<F, QueueScheduler>, R: Wait, G: Gate>(
     }
 }
 
-/// Whether a turn had a ticket.
+/// Returns whether a turn had a ticket.
 pub fn had_ticket(worked: Worked) -> bool
     ensures { MatchWorked worked (λ _. result ≡ true) (λ _. result ≡ true) (result ≡ false) }
 {

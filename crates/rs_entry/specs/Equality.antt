@@ -18,27 +18,32 @@ use Rattle.rs_entry.specs.declared.entry.CarriedBody.TheVariants as carried
 use Rattle.rs_entry.specs.declared.entry.Carried.{Carried}
 use Rattle.rs_entry.specs.declared.input.Boot.{Boot}
 
+-- the same operation on the same key, with the same value
 abbrev pub same_ops : Op → Op → Bool
 same_ops (op.Put a v) (op.Put b w) = same_bytes a b && same_bytes v w
 same_ops (op.Delete a) (op.Delete b) = same_bytes a b
 same_ops _ _ = false
 
+-- the same side
 abbrev pub same_sides : Side → Side → Bool
 same_sides side.Right side.Right = true
 same_sides side.Left side.Left = true
 same_sides _ _ = false
 
+-- the same change of the same peer
 abbrev pub same_changes : Change → Change → Bool
 same_changes (change.Add a) (change.Add b) = a == b
 same_changes (change.Remove a) (change.Remove b) = a == b
 same_changes _ _ = false
 
+-- the same kind of carried body with the same parts
 abbrev pub same_carried_bodies : CarriedBody → CarriedBody → Bool
 same_carried_bodies carried.Empty carried.Empty = true
 same_carried_bodies (carried.Write a) (carried.Write b) = same_lists same_ops a b
 same_carried_bodies (carried.Prepare a) (carried.Prepare b) = a == b
 same_carried_bodies _ _ = false
 
+-- the same index, epoch and body
 abbrev pub same_carried : Carried → Carried → Bool
 same_carried a b = (a.index == b.index) && (same_epochs a.epoch b.epoch && same_carried_bodies a.body b.body)
 
@@ -53,8 +58,10 @@ same_bodies (body.Rollback a) (body.Rollback b) = a == b
 same_bodies (body.Conf a) (body.Conf b) = same_changes a b
 same_bodies _ _ = false
 
+-- the same index, epoch and body
 abbrev pub same_entries : Entry → Entry → Bool
 same_entries a b = (a.index == b.index) && (same_epochs a.epoch b.epoch && same_bodies a.body b.body)
 
+-- the same region, range and peers
 abbrev pub same_boots : Boot → Boot → Bool
 same_boots a b = (a.region == b.region) && (same_bounds a.range b.range && same_lists nat_eq a.peers b.peers)

@@ -20,7 +20,7 @@ use Rattle.rs_entry.specs.Entries.{ops_in, carried_ops_in, carried_of, pairs_in}
 
 -- ---- numbers, ids, keys and values
 
--- at most 9,223,372,036,854,775,807
+-- the number is at most 9,223,372,036,854,775,807
 abbrev pub IsNumber : ℕ → Type 0
 IsNumber n = n < 0x8000_0000_0000_0000
 
@@ -33,6 +33,7 @@ abbrev pub Rising : ℕ → List ℕ → Type 0
 Rising low [] = Unit {0}
 Rising low (n ∷ ns) = (low < n) × IsNumber n × Rising n ns
 
+-- each number is a byte
 abbrev pub AreBytes : List ℕ → Type 0
 AreBytes bytes = AllByRecursion (λ b. b < 256) bytes
 
@@ -46,9 +47,11 @@ IsValue v = (length v ≤ 4096) × AreBytes v
 
 -- ---- entries
 
+-- both numbers of an epoch fit their limit
 abbrev pub IsEpoch : Epoch → Type 0
 IsEpoch e = IsNumber e.conf_ver × IsNumber e.version
 
+-- the key and the value have lengths within their limits
 abbrev pub IsOp : Op → Type 0
 IsOp (Put k v) = IsKey k × IsValue v
 IsOp (Delete k) = IsKey k
@@ -69,6 +72,7 @@ abbrev pub AreCarried : ℕ → List Carried → Type 0
 AreCarried commit [] = Unit {0}
 AreCarried commit (c ∷ cs) = (c.index + length cs ≡ commit) × (6 ≤ c.index) × IsEpoch c.epoch × IsCarriedBody cs c.body × AreCarried commit cs
 
+-- the peer of the change is an id
 abbrev pub IsChange : Change → Type 0
 IsChange (Add peer) = IsId peer
 IsChange (Remove peer) = IsId peer
@@ -94,7 +98,7 @@ AreEntries version n (e ∷ es) = (e.index ≡ n) × IsNumber e.index × IsEpoch
 
 -- ---- stores
 
--- in version 1 no peers, in version 2 1 to 64
+-- a region has no peers in version 1, and 1 to 64 in version 2
 abbrev pub ArePeers : ℕ → List ℕ → Type 0
 ArePeers version peers = ((version ≡ 1) × (peers ≡ [])) ⊎ ((version ≡ 2) × (0 < length peers) × (length peers ≤ 64) × Rising 0 peers)
 
@@ -102,6 +106,7 @@ ArePeers version peers = ((version ≡ 1) × (peers ≡ [])) ⊎ ((version ≡ 2
 abbrev pub IsRange : Bounds → Type 0
 IsRange r = IfSome r.start IsKey × IfSome r.end IsKey × (is_range r.start r.end ≡ true)
 
+-- a boot region has a range that isn't empty, and the peers that the version allows
 abbrev pub IsBoot : ℕ → Boot → Type 0
 IsBoot version b = IsRange b.range × ArePeers version b.peers
 

@@ -7,7 +7,7 @@ pub enum Op {
     Delete(Key),
 }
 
-/// Which range a region keeps at a split: the rightmost, or the leftmost.
+/// The range that a region keeps at a split: the rightmost, or the leftmost.
 #[derive(Clone, Copy, Debug, PartialEq, Eq)]
 pub enum Side {
     Right,
@@ -21,10 +21,10 @@ pub enum Change {
     Remove(u64),
 }
 
-/// What an entry proposes.
+/// The proposal of an entry.
 #[derive(Debug, Drop)]
 pub enum Body {
-    /// What a new leader commits. It has no effect.
+    /// The entry that a new leader commits. It has no effect.
     Empty,
     /// Operations in their order, at least one.
     Write(Rows<Op>),
@@ -45,7 +45,7 @@ pub enum Body {
         commit: u64,
         carried: Rows<Carried>,
     },
-    /// The merge that was prepared at the index `commit` is called off.
+    /// The merge that was prepared at the index `commit` is rolled back.
     Rollback {
         commit: u64,
     },
@@ -64,7 +64,7 @@ pub struct Entry {
     pub body: Body,
 }
 
-/// What a carried entry proposes.
+/// The proposal of a carried entry.
 #[derive(Debug, Drop)]
 pub enum CarriedBody {
     Empty,

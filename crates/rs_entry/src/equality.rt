@@ -120,7 +120,7 @@ impl Same for Boot {
 }
 
 impl Carried {
-    /// Whether the entry is the one that is carried: index, epoch and body agree.
+    /// Returns whether the entry is the one that is carried: index, epoch and body agree.
     pub fn same(&self, entry: &Entry) -> bool
         ensures test { result ≡ same_entries (entry_of self.now) entry.now }
         ensures exact { IsTrue result ↔ (entry_of self.now ≡ entry.now) }
@@ -130,7 +130,7 @@ impl Carried {
     }
 }
 
-/// Whether the body is the one that is carried.
+/// Returns whether the body is the one that is carried.
 fn is_body(carried: &CarriedBody, body: &Body) -> bool
     ensures test { result ≡ same_bodies (body_of carried.now) body.now }
     ensures exact { IsTrue result ↔ (body_of carried.now ≡ body.now) }

@@ -16,11 +16,11 @@ pub struct Boot {
     pub peers: Rows<u64>,
 }
 
-/// What one store has of the log of one region.
+/// A store's log of one region.
 #[derive(Debug, Drop)]
 pub struct Log {
     pub region: u64,
-    /// With the indexes `FIRST_INDEX`, 7, 8 and so on.
+    /// The entries with the indexes `FIRST_INDEX`, 7, 8 and so on.
     pub entries: Rows<Entry>,
 }
 

@@ -4,7 +4,7 @@ use crate::outcome::Mode;
 use rs_key::Range;
 use thiserror::Error;
 
-/// Something that an input says of a region, or of one entry of its log.
+/// A statement of an input about a region, or about one entry of its log.
 #[derive(Debug, Drop)]
 pub enum Statement {
     Boot(Boot),
@@ -12,7 +12,7 @@ pub enum Statement {
     Carried(Carried),
 }
 
-/// Why an input is no lawful set of committed logs.
+/// The fault of an input that is no lawful set of committed logs.
 #[derive(Debug, Drop, Error)]
 pub enum LawFault {
     /// Two stores state the same differently: the store of the first statement, and of the other.

@@ -1,18 +1,18 @@
 use rs_key::{Epoch, Key, Range, Rows, Value};
 
-/// What a region is doing.
+/// The mode of a region.
 #[derive(Clone, Copy, Debug, PartialEq, Eq)]
 pub enum Mode {
     Normal,
-    /// It prepared, at the index `commit`, to be taken over by the target.
+    /// The region prepared, at the index `commit`, its merge into the target.
     Merging { target: u64, commit: u64 },
-    /// It was taken over: a tombstone.
+    /// The region was merged into the target: a tombstone.
     Merged { target: u64 },
-    /// Its peer on this store was removed: a tombstone.
+    /// The region's peer on this store was removed: a tombstone.
     Removed,
 }
 
-/// What an entry was answered.
+/// The reply to an entry.
 #[derive(Debug, Drop)]
 pub enum Reply {
     /// Accepted, with the region's version after it.
@@ -40,13 +40,13 @@ pub struct RegionLine {
     pub mode: Mode,
     /// The index of the last entry applied; `INIT_INDEX` where there was none.
     pub applied: u64,
-    /// How many entries of its own log lie past that index.
+    /// The number of entries of its own log that lie past that index.
     pub left: u64,
     /// The ids of the stores of its peers; in version 1 there are none.
     pub peers: Rows<u64>,
 }
 
-/// What one entry was answered.
+/// The reply to one entry, with its region and index.
 #[derive(Debug, Drop)]
 pub struct ReplyLine {
     pub region: u64,
@@ -76,7 +76,7 @@ pub struct KeyHistory {
     pub items: Rows<Item>,
 }
 
-/// What came of one store.
+/// The outcome of one store.
 #[derive(Debug, Drop)]
 pub struct StoreOutcome {
     pub id: u64,
@@ -90,7 +90,7 @@ pub struct StoreOutcome {
     pub histories: Rows<KeyHistory>,
 }
 
-/// What came of all stores, by id.
+/// The outcome of all stores, by id.
 #[derive(Debug, Drop)]
 pub struct Outcome {
     pub stores: Rows<StoreOutcome>,

@@ -12,6 +12,7 @@ use Rattle.rs_field.specs.declared.fault.TextKind.TheVariants.{BadLine, BadNumbe
 
 -- the second step, if the first gave a value
 infixl 10 ◌>>=◌
+-- one reading after another: the second one reads where the first succeeded
 abbrev pub ◌>>=◌ : {A B : Type 0} → Result A TextKind → (A → Result B TextKind) → Result B TextKind
 (Ok x) >>= f = f x
 (Err e) >>= f = Err e
@@ -60,6 +61,7 @@ starts_badly f = (length f == 0) || (nat_lt 1 (length f) && (slice_index f 0 == 
 unfoldable pub number_of : List ℕ → Result ℕ TextKind
 number_of f = if starts_badly f then Err BadNumber else ok_or (decimal_of f) BadNumber
 
+-- the next field as a number
 unfoldable pub number_at : Fields → Read ℕ
 number_at fields = do
   f ← field_at fields
@@ -72,6 +74,7 @@ id_of f = do
   n ← number_of f
   if n == 0 then Err BadNumber else Ok n
 
+-- the next field as an id
 unfoldable pub id_at : Fields → Read ℕ
 id_at fields = do
   f ← field_at fields
@@ -80,7 +83,7 @@ id_at fields = do
 
 -- ---- keys, values and bounds
 
--- the bytes that were spelled: at least one, and at most so many
+-- the bytes that were spelled: at least one, and at most `most`
 abbrev pub sized : ℕ → Result (List ℕ) FromHexError → Result (List ℕ) TextKind
 sized most (Err e) = Err BadKey
 sized most (Ok bytes) = if length bytes == 0 then Err BadKey else if nat_lt most (length bytes) then Err Limit else Ok bytes
@@ -89,6 +92,7 @@ sized most (Ok bytes) = if length bytes == 0 then Err BadKey else if nat_lt most
 unfoldable pub hex_of : ℕ → List ℕ → Result (List ℕ) TextKind
 hex_of most f = sized most (decode_of f)
 
+-- the next field as a key
 unfoldable pub key_at : Fields → Read (List ℕ)
 key_at fields = do
   f ← field_at fields
@@ -102,6 +106,7 @@ value_at fields = do
   v ← (if bytes_eq f.0 (codes "-") then Ok [] else hex_of 4096 f.0)
   Ok (v, f.1)
 
+-- the bound that was read is there
 abbrev pub some : Result (List ℕ) TextKind → Result (Option (List ℕ)) TextKind
 some (Ok k) = Ok (Some k)
 some (Err e) = Err e

@@ -29,6 +29,7 @@ word s = Exact (codes s)
 abbrev pub number : ℕ → Form
 number n = Exact (decimal n)
 
+-- a bound that is missing
 abbrev pub dash : Form
 dash = word "-"
 
@@ -74,7 +75,7 @@ line_text forms = fields_text forms ++ 10 ∷ []
 abbrev pub lines_text : List Forms → List ℕ
 lines_text lines = flat_map line_text lines
 
--- where the call went well, the bytes stand at the end
+-- the bytes were appended if the call went well
 abbrev pub Appends : {A : Type 0} → Result Unit NoMemory → Vec ℕ A → Vec ℕ A → List ℕ → Type 0
 Appends result old new bytes = OnOk result (new.items ≡ old.items ++ bytes)
 

@@ -4,10 +4,10 @@ ghost use Rattle.std.specs.Prelude.{◌≡◌, ◌==◌, ◌∷◌, ◌≤◌, �
 ghost use Rattle.std.specs.List.{position_or_len, list_any};
 ghost use Rattle.rs_field.specs.Lines.{parts_of, fields_of};
 
-/// How many bytes are looked at together.
+/// The number of bytes that are compared together.
 const BLOCK: usize = 16;
 
-/// Whether the byte is among these. All of them are looked at, so that a processor can compare many at once.
+/// Returns whether the byte is among these. All of them are looked at, so that a processor can compare many at once.
 fn has(block: &[u8], byte: u8) -> bool
     ensures { result ≡ list_any (λ b. b == byte) block.now }
 {
@@ -18,7 +18,7 @@ fn has(block: &[u8], byte: u8) -> bool
     found
 }
 
-/// The end of the blocks at the front that don't have the byte.
+/// Returns the end of the blocks at the front that don't have the byte.
 fn blocks_without(bytes: &[u8], byte: u8) -> usize
     ensures within { result ≤ length bytes.now }
     ensures none { (k : ℕ) → k < result → (slice_index bytes.now k == byte) ≡ false }
@@ -33,7 +33,7 @@ fn blocks_without(bytes: &[u8], byte: u8) -> usize
     end
 }
 
-/// Where the byte first stands, or the length where it doesn't.
+/// Returns where the byte first stands, or the length where it doesn't.
 fn place_of(bytes: &[u8], byte: u8) -> usize
     ensures place { result ≡ position_or_len (λ b. b == byte) bytes.now }
     ensures bound { result ≤ length bytes.now }
@@ -47,7 +47,7 @@ fn place_of(bytes: &[u8], byte: u8) -> usize
     bytes.len()
 }
 
-/// How many spaces stand at the front.
+/// Returns how many spaces stand at the front.
 fn spaces_of(bytes: &[u8]) -> usize
     ensures place { result ≡ position_or_len (λ b. not (b == 32)) bytes.now }
     ensures bound { result ≤ length bytes.now }
@@ -60,7 +60,7 @@ fn spaces_of(bytes: &[u8]) -> usize
     bytes.len()
 }
 
-/// The first field and what follows it; none exactly where the line has no field.
+/// Returns the first field and what follows it; `None` exactly where the line has no field.
 pub fn next_field(line: &[u8]) -> Option<(&[u8], &[u8])>
     ensures { MatchOption result (fields_of line.now ≡ []) (λ p. fields_of line.now ≡ p.0.now ∷ fields_of p.1.now) }
 {
@@ -72,7 +72,7 @@ pub fn next_field(line: &[u8]) -> Option<(&[u8], &[u8])>
     Some((field, after))
 }
 
-/// The first line and the text after its LF; none exactly where the text has no LF.
+/// Returns the first line and the text after its LF; `None` exactly where the text has no LF.
 pub fn next_line(text: &[u8]) -> Option<(&[u8], &[u8])>
     ensures parts { MatchOption result (parts_of text.now ≡ text.now ∷ []) (λ p. parts_of text.now ≡ p.0.now ∷ parts_of p.1.now) }
     ensures shorter { IfSome result (λ p. length p.1.now < length text.now) }

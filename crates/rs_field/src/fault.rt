@@ -2,7 +2,7 @@ use rs_key::NoMemory;
 use std::alloc::AllocError;
 use thiserror::Error;
 
-/// What is wrong with a text at its first bad line.
+/// The fault of a text at its first bad line.
 #[derive(Clone, Copy, Debug, PartialEq, Eq, Error)]
 pub enum TextKind {
     /// Line 1 doesn't name the format and a version.
@@ -31,10 +31,10 @@ pub enum TextKind {
     NoEnd,
 }
 
-/// Why a line, or a part of it, was not read.
+/// The error of a line, or a part of it, that wasn't read.
 #[derive(Clone, Copy, Debug, PartialEq, Eq, Error)]
 pub enum LineError {
-    /// It is no line of the format.
+    /// The line isn't one of the format.
     #[error("{0}")]
     Bad(TextKind),
     /// Memory ran out.

@@ -11,7 +11,7 @@ use rs_key::{Bytes, Key, Value};
 use std::alloc::Global;
 use std::marker::Model;
 
-/// What is left of a line. Contracts see the list of its fields.
+/// The rest of a line. Contracts see the list of its fields.
 ///
 /// A call that takes a field takes it also where it is bad.
 #[derive(Drop)]
@@ -29,6 +29,7 @@ impl<'a> Model for Fields<'a> {
 }
 
 impl<'a> Fields<'a> {
+    /// Returns the fields of the line, which spaces separate.
     pub fn new(line: &'a [u8]) -> Fields<'a>
         ensures { result ≡ fields_of line.now }
     {
@@ -44,7 +45,7 @@ impl<'a> Fields<'a> {
         Some(field)
     }
 
-    /// The end of the line; a surplus field is a bad line.
+    /// Takes the end of the line; a surplus field is a bad line.
     pub fn end(&mut self) -> Result<(), TextKind>
         ensures { result ≡ end_at self.old }
     {

@@ -14,7 +14,7 @@ use crate::fault::{LineError, TextKind};
 use rs_key::Bytes;
 use std::alloc::Global;
 
-/// The digit of lower case that has this value.
+/// Returns the digit of lower case that has this value.
 fn lower_digit(value: u8) -> u8
     requires { value < 16 }
     ensures { result ≡ slice_index lower_digits value }
@@ -63,7 +63,7 @@ fn at(table: &[u8; 256], byte: u8) -> u8
     table[byte as usize]
 }
 
-/// The value of a digit, or 255.
+/// Returns the value of a digit, or 255.
 fn digit(byte: u8) -> u8
     ensures { result ≡ unwrap_or (hex_digit_value byte) 255 }
 {
@@ -92,10 +92,10 @@ fn decode_from(field: &[u8], start: usize, room: &mut [u8]) -> bool
     true
 }
 
-/// How many bytes are read at once from a long field.
+/// The number of bytes that are read at once from a long field.
 const BLOCK: usize = 16;
 
-/// The value of a digit, or 255, by comparisons alone.
+/// Returns the value of a digit, or 255, by comparisons alone.
 fn compared(byte: u8) -> u8
     ensures { result ≡ unwrap_or (hex_digit_value byte) 255 }
 {
@@ -116,7 +116,7 @@ fn compared(byte: u8) -> u8
     }
 }
 
-/// The greatest of three values.
+/// Returns the greatest of three values.
 fn greatest_of(a: u8, b: u8, c: u8) -> u8
     ensures above { (a ≤ result) × (b ≤ result) × (c ≤ result) }
     ensures least { (n : ℕ) → a ≤ n → b ≤ n → c ≤ n → result ≤ n }
@@ -161,7 +161,7 @@ fn decode_into(field: &[u8], room: &mut [u8]) -> bool
     decode_from(field, done, room)
 }
 
-/// The bytes that up to 44 digits spell, an even number of them; none where a byte is no digit. They take no
+/// Returns the bytes that up to 44 digits spell, an even number of them; `None` if a byte is no digit. They take no
 /// memory.
 fn decode_short(field: &[u8]) -> Option<Bytes>
     requires even { length field.now % 2 ≡ 0 }
@@ -177,7 +177,7 @@ fn decode_short(field: &[u8]) -> Option<Bytes>
     }
 }
 
-/// The bytes that an even number of digits spells, on the heap.
+/// Returns the bytes that an even number of digits spells, on the heap.
 fn decode_long(alloc: Global, field: &[u8]) -> Result<Bytes, LineError>
     requires { length field.now % 2 ≡ 0 }
     ensures { Decodes result (decode_of field.now) }
@@ -190,7 +190,7 @@ fn decode_long(alloc: Global, field: &[u8]) -> Result<Bytes, LineError>
     }
 }
 
-/// The bytes that an even number of hexadecimal digits spells. Only more than 44 digits want memory.
+/// Returns the bytes that an even number of hexadecimal digits spells. Only more than 44 digits want memory.
 fn decode(alloc: Global, field: &[u8]) -> Result<Bytes, LineError>
     ensures value { Decodes result (decode_of field.now) }
     ensures memory { IsErrOf result LineError.NoMemory → 44 < length field.now }
@@ -205,7 +205,7 @@ fn decode(alloc: Global, field: &[u8]) -> Result<Bytes, LineError>
     }
 }
 
-/// The bytes that hexadecimal digits of either case spell, at least one of them and at most so many. Only more
+/// Returns the bytes that hexadecimal digits of either case spell, at least one of them and at most `most`. Only more
 /// than 44 digits want memory.
 #[tactic(auto, unfolding(crate::specs::Fields::hex_of))]
 pub fn hex_of(alloc: Global, most: usize, field: &[u8]) -> Result<Bytes, LineError>

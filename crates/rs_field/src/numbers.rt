@@ -9,7 +9,7 @@ use crate::fault::TextKind;
 /// The greatest number of a text.
 const TOP: u64 = 9_223_372_036_854_775_807;
 
-/// The value of decimal digits below 2 ^ 63.
+/// Returns the value of decimal digits below 2 ^ 63.
 fn decimal_of(field: &[u8]) -> Option<u64>
     ensures { result ≡ decimal_of field.now }
 {
@@ -26,7 +26,7 @@ fn decimal_of(field: &[u8]) -> Option<u64>
     Some(n)
 }
 
-/// The number that a field spells: decimal digits without a leading zero, at most 9,223,372,036,854,775,807.
+/// Returns the number that a field spells: decimal digits without a leading zero, at most 9,223,372,036,854,775,807.
 #[tactic(auto, unfolding(crate::specs::Fields::number_of))]
 pub fn number_of(field: &[u8]) -> Result<u64, TextKind>
     ensures { result ≡ number_of field.now }
@@ -38,7 +38,7 @@ pub fn number_of(field: &[u8]) -> Result<u64, TextKind>
     }
 }
 
-/// The id that a field spells: a number of at least 1.
+/// Returns the id that a field spells: a number of at least 1.
 #[tactic(auto, unfolding(crate::specs::Fields::id_of))]
 pub fn id_of(field: &[u8]) -> Result<u64, TextKind>
     ensures { result ≡ id_of field.now }
@@ -50,7 +50,7 @@ pub fn id_of(field: &[u8]) -> Result<u64, TextKind>
     Ok(n)
 }
 
-/// Whether a field is this word.
+/// Returns whether a field is this word.
 pub fn is_word(field: &[u8], word: &str) -> bool
     ensures { result ≡ bytes_eq field.now word.now }
 {

@@ -7,7 +7,7 @@ use crate::hexadecimal::encode_into;
 use itoa::Buffer;
 use rs_key::{Epoch, Key, NoMemory, Range, Rows, Value};
 
-/// What is written as fields of a line.
+/// A value that is written as fields of a line.
 pub trait Text {
     ghost use Rattle.rs_field.specs.Forms.{Forms};
 

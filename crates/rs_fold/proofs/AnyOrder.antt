@@ -20,7 +20,7 @@ use Rattle.rs_history.specs.Outcomes.{outcome_at, outcome_by, store_outcome}
 use Rattle.rs_history.proofs.SameOutcomes.{agreed_outcome}
 
 -- the canonical order of a lawful store comes to its end
-lawful_last : (store : Store) → IsLawful store → (k : Applied) × (last store ≡ Went k)
+pub lawful_last : (store : Store) → IsLawful store → (k : Applied) × (last store ≡ Went k)
 lawful_last store lawful = go (last store) refl
   where
     go : (s : Stepped) → last store ≡ s → (k : Applied) × (last store ≡ Went k)

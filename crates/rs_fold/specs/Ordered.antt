@@ -14,15 +14,15 @@ use Rattle.rs_fold.specs.declared.fold_error.FoldError.TheVariants as errors
 use Rattle.rs_fold.specs.declared.run.End.{End as Reached}
 use Rattle.rs_history.specs.Outcomes.{outcome_at, reply_line, store_outcome}
 
--- to an outcome, where it ends with no region ready; to a place, counted from 1, whose region is not ready yet;
--- to a region that is still ready at its end; or to a fault
+-- what an order leads to: the outcome, if it ends with no region ready; the place, counted from 1, whose region is
+-- not ready yet; a region that is still ready at its end; or a fault
 pub data Ordered : Type 0 where
   Gave : StoreOutcome → Ordered
   TooSoon : (place : ℕ) → Ordered
   Unfinished : (region : ℕ) → Ordered
   Broken : StepFault → Ordered
 
--- at the end of an order, where this region is ready, if any
+-- what the end of an order leads to, by the region that is still ready, if any is
 abbrev pub ended : Store → Applied → Option ℕ → Ordered
 ended store g None = Gave (outcome_at store g)
 ended store g (Some region) = Unfinished region

@@ -5,7 +5,7 @@ use rs_key::NoMemory;
 use std::alloc::AllocError;
 use thiserror::Error;
 
-/// Why an order gives no outcome.
+/// The error of an order that gives no outcome.
 #[derive(Clone, Copy, Debug, PartialEq, Eq, Error)]
 pub enum FoldError {
     /// The region at this place of the order, counted from 1, isn't ready in its turn. It is the first such place.

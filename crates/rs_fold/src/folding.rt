@@ -14,7 +14,7 @@ use rs_history::pairs_of;
 use rs_key::{NoMemory, Rows};
 use std::alloc::Global;
 
-/// What comes of a plan: on each store the end of its canonical order.
+/// Returns what comes of a plan: on each store the end of its canonical order.
 #[tactic(auto, using(crate::proofs::Lawful::lawful_stores), unfolding(rs_history::specs::Outcomes::outcome_of))]
 pub fn fold(alloc: Global, plan: &Plan) -> Result<Outcome, NoMemory>
     ensures { IfOk result (λ outcome. outcome ≡ outcome_of plan.now) }
@@ -36,7 +36,7 @@ fn outcomes_of(alloc: Global, stores: &[Store]) -> Result<Rows<StoreOutcome>, No
     Ok(outcomes)
 }
 
-/// What comes of a store whose order meets no fault.
+/// Returns what comes of a store whose order meets no fault.
 fn store_outcome(alloc: Global, store: &Store) -> Result<StoreOutcome, NoMemory>
     requires formed { IsFormedOne store.now }
     requires lawful { IsLawful store.now }
@@ -46,7 +46,7 @@ fn store_outcome(alloc: Global, store: &Store) -> Result<StoreOutcome, NoMemory>
     outcome_of_end(alloc, store, end)
 }
 
-/// What comes of a store that was run to this end.
+/// Returns what comes of a store that was run to this end.
 pub fn outcome_of_end(alloc: Global, store: &Store, end: End<'_>) -> Result<StoreOutcome, NoMemory>
     requires formed { IsFormedOne store.now }
     requires ids { end.arrived.ids.items ≡ ids_of store.now }

@@ -17,7 +17,8 @@ use rs_history::Writes;
 use rs_store::{Advance, Walk};
 use std::alloc::Global;
 
-/// What comes of one store, the one with this id, when its regions take their entries in the order of these ids.
+/// Returns what comes of one store, the one with this id, when its regions take their entries in the order of these
+/// ids.
 ///
 /// Every order that ends with no region ready gives the outcome of the canonical order, which `fold` has.
 pub fn fold_in(
@@ -41,7 +42,7 @@ fn store_named(stores: &[Store], id: u64) -> Option<&Store>
     stores.iter().find(|store| store.id == id)
 }
 
-/// What comes of a store by the order.
+/// Returns what comes of a store by the order.
 fn outcome_in_order(alloc: Global, store: &Store, order: &[u64]) -> Result<StoreOutcome, FoldError>
     requires formed { IsFormedOne store.now }
     requires scripted { IsScripted store.now }

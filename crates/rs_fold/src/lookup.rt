@@ -7,7 +7,7 @@ ghost use Rattle.rs_history.specs.Outcomes.{history_in, history_at};
 use rs_entry::{Item, KeyHistory, Outcome, StoreOutcome};
 use rs_key::{Key, Rows};
 
-/// The history of the key on the store.
+/// Returns the history of the key on the store.
 ///
 /// None exactly where the outcome has no such store, or no history of the key there. It takes no memory.
 pub fn history<'a>(outcome: &'a Outcome, store: u64, key: &Key) -> Option<&'a Rows<Item>>

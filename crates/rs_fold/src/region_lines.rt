@@ -9,7 +9,7 @@ use rs_key::{NoMemory, Range, Rows, TryClone};
 use rs_store::{Made, Regions, own};
 use std::alloc::Global;
 
-/// The lines of the regions with these ids that were made.
+/// Returns the lines of the regions with these ids that were made.
 pub fn lines_in(
     alloc: Global,
     store: &Store,
@@ -54,7 +54,7 @@ fn line(store: &Store, id: u64, made: &Made) -> Result<RegionLine, NoMemory>
     })
 }
 
-/// How many of the entries lie past the applied index.
+/// Returns how many of the entries lie past the applied index.
 fn left_of(log: &[Entry], applied: u64) -> u64
     ensures { result ≡ left_of log.now applied }
 {
@@ -62,7 +62,7 @@ fn left_of(log: &[Entry], applied: u64) -> u64
     (log.len() as u64).saturating_sub(done)
 }
 
-/// The last ranges of the regions with these ids that were removed.
+/// Returns the last ranges of the regions with these ids that were removed.
 pub fn removed_in(alloc: Global, regions: &Regions, ids: &[u64]) -> Result<Vec<Range>, NoMemory>
     ensures { IfOk result (λ ranges. ranges.items ≡ removed_in (seen regions.now) ids.now) }
 {

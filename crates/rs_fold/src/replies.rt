@@ -9,7 +9,7 @@ use rs_entry::ReplyLine;
 use rs_key::{NoMemory, Rows};
 use std::alloc::AllocError;
 
-/// The replies by region; those of one region keep their order.
+/// Returns the replies by region; those of one region keep their order.
 pub fn by_region(replies: Vec<ReplyLine>) -> Result<Rows<ReplyLine>, NoMemory>
     ensures { IfOk result (λ sorted. sorted ≡ by_region replies.items) }
 {

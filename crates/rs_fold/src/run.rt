@@ -55,7 +55,7 @@ pub fn run_to_end<'a>(alloc: Global, store: &'a Store) -> Result<End<'a>, NoMemo
     })
 }
 
-/// Adds the reply of the region's entry, where there is one.
+/// Adds the reply of the region's entry, if it has one.
 pub fn record_reply(
     replies: &mut Vec<ReplyLine>,
     region: u64,

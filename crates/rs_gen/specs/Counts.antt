@@ -11,6 +11,7 @@ abbrev pub writes_in : Stepped → ℕ
 writes_in (Went g) = length g.writes
 writes_in (Broke fault) = 0
 
+-- the sizes of the input that is made for n entries
 pub record HasCounts (n : ℕ) (input : Input) : Type 0 where
   pub stores : length input.stores ≡ 2
   -- on each store region 1, and one region more in each round

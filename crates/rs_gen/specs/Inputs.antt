@@ -22,10 +22,11 @@ rounds n = range_with_len 0 (rounds_of n)
 abbrev pub whole : Boot
 whole = record { region = 1; range = record { start = None; end = None }; peers = [] }
 
+-- the log of region 1: the entries of all rounds
 abbrev pub main_log : ℕ → Log
 main_log n = record { region = 1; entries = flat_map (main_entries n) (rounds n) }
 
--- the log of a round's new region where a store has so many of its entries; where it has none there is no log
+-- the log of a round's new region on a store that has this number of its entries; without entries there is no log
 abbrev pub child_log : ℕ → ℕ → ℕ → List Log
 child_log n t zero = []
 child_log n t (suc k) = record { region = child t; entries = take (suc k) (map entry_of (child_entries n t)) } ∷ []

@@ -36,12 +36,15 @@ version t = 1 + 3 * t
 abbrev pub low : ℕ → ℕ → ℕ → ℕ
 low n t place = byte_in n t place % cut n t
 
+-- a byte from the cut of the round on, made of its byte at the place
 abbrev pub high : ℕ → ℕ → ℕ → ℕ
 high n t place = cut n t + byte_in n t place % (256 - cut n t)
 
+-- a put of a key and a value of one byte each
 abbrev pub put : ℕ → ℕ → Op
 put key value = op.Put (key ∷ []) (value ∷ [])
 
+-- the deletion of a key of one byte
 abbrev pub delete : ℕ → Op
 delete key = op.Delete (key ∷ [])
 
@@ -49,6 +52,7 @@ delete key = op.Delete (key ∷ [])
 abbrev pub first_write : ℕ → ℕ → List Op
 first_write n t = put (low n t 5) (byte_in n t 6) ∷ delete (low n t 7) ∷ []
 
+-- the second write of a round: one key below the cut
 abbrev pub second_write : ℕ → ℕ → List Op
 second_write n t = put (low n t 8) (byte_in n t 9) ∷ []
 
@@ -56,14 +60,17 @@ second_write n t = put (low n t 8) (byte_in n t 9) ∷ []
 abbrev pub main_write : ℕ → ℕ → List Op
 main_write n t = put (byte_in n t 1) (byte_in n t 2) ∷ put (byte_in n t 3) (byte_in n t 4) ∷ []
 
+-- the last write of a round: one key above the cut
 abbrev pub last_write : ℕ → ℕ → List Op
 last_write n t = put (high n t 10) (byte_in n t 11) ∷ []
 
 -- ---- entries
 
+-- an entry at the index, proposed at conf_ver 1 and this version
 abbrev pub entry_at : ℕ → ℕ → Body → Entry
 entry_at index version body = record { index = index; epoch = record { conf_ver = 1; version = version }; body = body }
 
+-- a carried entry at the index, proposed at conf_ver 1 and this version
 abbrev pub carried_at : ℕ → ℕ → CarriedBody → Carried
 carried_at index version body = record { index = index; epoch = record { conf_ver = 1; version = version }; body = body }
 

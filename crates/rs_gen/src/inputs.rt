@@ -13,7 +13,7 @@ use rs_entry::{Body, Boot, Carried, CarriedBody, Entry, Input, Log, Store};
 use rs_key::{NoMemory, Range, Rows, TryClone};
 use std::alloc::Global;
 
-/// The input of a number, with two stores and `1 + n % 2000` rounds.
+/// Returns the input of a number, with two stores and `1 + n % 2000` rounds.
 #[tactic(auto, using(crate::proofs::Forming::made_formed, crate::proofs::Lawful::made_lawful, crate::proofs::Counting::made_counts))]
 pub fn make(alloc: Global, n: u64) -> Result<Input, NoMemory>
     ensures input { IfOk result (λ input. input ≡ made_of n) }
@@ -44,7 +44,7 @@ fn store(alloc: Global, n: u64, id: u64, share: Kept) -> Result<Store, NoMemory>
     Ok(Store { id, regions, logs })
 }
 
-/// Region 1, with all keys.
+/// Returns region 1, with all keys.
 fn whole(alloc: Global) -> Result<Boot, NoMemory>
     ensures { IfOk result (λ boot. boot ≡ whole) }
 {
@@ -123,7 +123,7 @@ fn child_log(alloc: Global, round: Round, count: usize) -> Result<Log, NoMemory>
     })
 }
 
-/// How many entries of it a store has.
+/// Returns how many entries of it a store has.
 #[tactic(auto, unfolding(crate::specs::Inputs::kept))]
 fn kept_of(share: Kept, round: Round) -> usize
     ensures value { result ≡ kept share round.number round.nth }
@@ -135,7 +135,7 @@ fn kept_of(share: Kept, round: Round) -> usize
     }
 }
 
-/// Carried entries as those of their region's own log.
+/// Returns carried entries as those of their region's own log.
 fn own_entries(alloc: Global, carried: &[Carried]) -> Result<Rows<Entry>, NoMemory>
     ensures { IfOk result (λ entries. entries ≡ map entry_of carried.now) }
 {

@@ -1,4 +1,4 @@
-/// What a store has of the log of a region that was split off and taken over again.
+/// The part that a store has of the log of a region that was split off and merged again.
 #[derive(Clone, Copy)]
 pub enum Kept {
     /// Each entry.

@@ -14,7 +14,7 @@ pub struct Round {
 }
 
 impl Round {
-    /// The round's byte at a place.
+    /// Returns the round's byte at a place.
     #[tactic(auto, unfolding(crate::specs::Rounds::byte))]
     pub fn byte(self, place: u64) -> u8
         requires { place < 17 }
@@ -23,7 +23,7 @@ impl Round {
         ((self.number % 256 + 91 * (17 * self.nth + place)) % 256) as u8
     }
 
-    /// The one byte of the key at which region 1 is split.
+    /// Returns the one byte of the key at which region 1 is split.
     #[tactic(auto, unfolding(crate::specs::Rounds::cut))]
     fn cut(self) -> u8
         ensures value { result ≡ cut self.number self.nth }
@@ -32,7 +32,7 @@ impl Round {
         1 + self.byte(0) % 255
     }
 
-    /// A key below the cut, by the byte at the place.
+    /// Returns a key below the cut, by the byte at the place.
     fn low(self, place: u64) -> u8
         requires { place < 17 }
         ensures { result ≡ low self.number self.nth place }
@@ -41,7 +41,7 @@ impl Round {
         self.byte(place) % cut
     }
 
-    /// A key from the cut on, by the byte at the place.
+    /// Returns a key from the cut on, by the byte at the place.
     fn high(self, place: u64) -> u8
         requires { place < 17 }
         ensures { result ≡ high self.number self.nth place }
@@ -51,21 +51,21 @@ impl Round {
         (cut + above) as u8
     }
 
-    /// The id of the region that is split off.
+    /// Returns the id of the region that is split off.
     pub fn child(self) -> u64
         ensures { result ≡ child self.nth }
     {
         2 + self.nth
     }
 
-    /// The version of region 1 before the split.
+    /// Returns the version of region 1 before the split.
     fn version(self) -> u64
         ensures { result ≡ version self.nth }
     {
         1 + 3 * self.nth
     }
 
-    /// What the commit of the round carries: the log of the region that was split off.
+    /// Returns what the commit of the round carries: the log of the region that was split off.
     pub fn carried(self, alloc: Global) -> Result<Rows<Carried>, NoMemory>
         ensures { IfOk result (λ entries. entries ≡ child_entries self.number self.nth) }
     {
@@ -155,7 +155,7 @@ impl Round {
     }
 }
 
-/// The key of one byte.
+/// Returns the key of one byte.
 fn key(alloc: Global, byte: u8) -> Result<Key, NoMemory>
     ensures { IfOk result (λ key. key ≡ byte ∷ []) }
 {

@@ -1,4 +1,4 @@
--- What handlers let their machines do, and what they send of it.
+-- What handlers let their machines do, and which messages they send.
 use Rattle.std.specs.Prelude.{◌≡◌, ℕ, ◌||◌, ◌++◌, ◌∷◌, Bool, true, false, List, []}
 use Rattle.rs_apply.specs.Handling.{merges_so_far, named_after, tells_merge, IsBornBy}
 use Rattle.rs_apply.specs.Handling as apply
@@ -55,6 +55,7 @@ pub record TellsApply (x : ApplyFsm) (msg : ApplyMsg) (out : Outbox) (y : ApplyF
   pub asked : y.asked ≡ x.asked
   pub nothing_out : out_after ≡ out
 
+-- the machine has more to do
 abbrev pub is_yes : More → Bool
 is_yes Yes = true
 is_yes No = false

@@ -66,7 +66,8 @@ impl<'r, 'p> Handler<ApplyFsm<'p>, QueueScheduler> for ApplyHandler<'r, 'p> {
         Ok(())
     }
 
-    /// It asks for more where the machine used its budget up. Where memory runs out nothing is left to send.
+    /// Lets the machine go on, and asks for more where it used its budget up. Where memory runs out nothing is left to
+    /// send.
     fn advance(
         &mut self,
         machine: &mut ApplyFsm<'p>,
@@ -102,7 +103,7 @@ impl<'r, 'p> Handler<ApplyFsm<'p>, QueueScheduler> for ApplyHandler<'r, 'p> {
     }
 }
 
-/// Whether the machine is to run again for this.
+/// Returns whether the machine is to run again for this.
 fn more_after(progress: Progress) -> More
     ensures { is_yes result ≡ is_more progress }
 {

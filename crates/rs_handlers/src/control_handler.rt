@@ -15,7 +15,7 @@ use rs_router::{Desks, QueueScheduler, Router, Scheduler, SchedulerPass};
 use std::alloc::Global;
 use std::sync::Wait;
 
-/// What control machines tell the main thread of the run.
+/// The messages of the control machines to the run's main thread.
 #[derive(Drop)]
 pub struct ControlOut {
     /// The places of stores whose machine was found complete.
@@ -25,7 +25,7 @@ pub struct ControlOut {
 }
 
 impl ControlOut {
-    /// Nothing is told. It takes no memory.
+    /// Returns the output in which nothing is told. It takes no memory.
     pub fn new(alloc: Global) -> ControlOut
         ensures complete { result.complete ≡ [] }
         ensures removed { result.removed ≡ [] }
@@ -102,7 +102,7 @@ impl<'p> Handler<StoreFsm<'p>, QueueScheduler> for ControlHandler<'p> {
         Ok(())
     }
 
-    /// It names a machine that is complete.
+    /// Names the machine if it is complete, and asks for no more.
     fn advance(
         &mut self,
         machine: &mut StoreFsm<'p>,
@@ -114,7 +114,7 @@ impl<'p> Handler<StoreFsm<'p>, QueueScheduler> for ControlHandler<'p> {
         Ok(More::No)
     }
 
-    /// The main thread of the run takes what is told.
+    /// Sends nothing: the run's main thread takes what is told.
     fn send_out<R: Wait>(
         &mut self,
         _rt: &R,
@@ -127,7 +127,7 @@ impl<'p> Handler<StoreFsm<'p>, QueueScheduler> for ControlHandler<'p> {
     }
 }
 
-/// The address of a region that the message says to have ended removed.
+/// Returns the address of a region that the message says to have ended removed.
 fn removed_by(plan: &Plan, message: &StoreMsg<'_>) -> Option<u32>
     requires { name_of_store message.now ≡ plan.now }
     ensures within { IfSome result (λ address. address < count_of plan.now) }

@@ -12,7 +12,7 @@ use rs_msg::PeerMsg;
 use std::alloc::Global;
 use std::collections::VecDeque;
 
-/// What the peer machines are still to be told of their logs.
+/// The deliveries of the logs to the peer machines that are still to be made.
 ///
 /// Each address is told once, and then its index rises by at most a chunk with each message, up to the last entry of
 /// its own log. The addresses take turns.
@@ -25,7 +25,7 @@ pub struct Deliveries<'p> {
 }
 
 impl<'p> Deliveries<'p> {
-    /// Nothing was told yet.
+    /// Returns the deliveries of the plan, none of which was made.
     pub fn new(alloc: Global, plan: &'p Plan, chunk: u32) -> Result<Deliveries<'p>, NoMemory>
         ensures plan { IfOk result (λ d. d.plan ≡ plan.entry) }
         ensures chunk { IfOk result (λ d. d.chunk ≡ chunk) }
@@ -42,7 +42,7 @@ impl<'p> Deliveries<'p> {
         })
     }
 
-    /// The next message with its address. None where all was told.
+    /// Returns the next message with its address. None where all was told.
     pub fn next(&mut self) -> Result<Option<(u32, PeerMsg<'p>)>, NoMemory>
         ensures plan { self.new.plan ≡ self.old.plan }
         ensures chunk { self.new.chunk ≡ self.old.chunk }
@@ -61,7 +61,7 @@ impl<'p> Deliveries<'p> {
         Ok(Some((told.address, PeerMsg::Deliver { plan, upto })))
     }
 
-    /// The address waits for its next message.
+    /// Records that the address waits for its next message.
     fn wait(&mut self, told: Told) -> Result<(), NoMemory>
         requires { told.address < count_of self.old.plan.now }
         ensures plan { self.new.plan ≡ self.old.plan }
@@ -73,7 +73,7 @@ impl<'p> Deliveries<'p> {
     }
 }
 
-/// The address waits for its first message, behind the others.
+/// Records that the address waits for its first message, behind the others.
 fn line_up(waiting: &mut VecDeque<Told>, told: Told) -> Result<(), NoMemory>
     ensures { OnOk result (waiting.new.items ≡ waiting.old.items ++ told ∷ []) }
 {
@@ -81,7 +81,7 @@ fn line_up(waiting: &mut VecDeque<Told>, told: Told) -> Result<(), NoMemory>
     Ok(())
 }
 
-/// The index of the last entry of the address's own log; 5 where it has none.
+/// Returns the index of the last entry of the address's own log; 5 where it has none.
 fn last_own(plan: &Plan, address: u32) -> u64
     requires { address < count_of plan.now }
     ensures { result ≡ last_own plan.now address }

@@ -18,7 +18,7 @@ pub struct Gathered<'p> {
 }
 
 impl<'p> Gathered<'p> {
-    /// None is there.
+    /// Returns the outcomes of the plan, of which none has come.
     pub fn new(alloc: Global, plan: &'p Plan) -> Result<Gathered<'p>, NoMemory>
         ensures plan { IfOk result (λ g. g.plan ≡ plan.entry) }
         ensures none { IfOk result (λ g. All (λ outcome. outcome ≡ None) g.outcomes.items) }
@@ -30,7 +30,7 @@ impl<'p> Gathered<'p> {
         Ok(Gathered { plan, outcomes })
     }
 
-    /// The outcome of the store at the place is there, and those of the others are as they were.
+    /// Records the outcome of the store at the place. The others stay as they were.
     pub fn put(&mut self, place: u32, outcome: StoreOutcome)
         requires place { place < length self.old.plan.now.stores }
         requires outcome { option_map store_outcome (slice_get self.old.plan.now.stores place) ≡ Some outcome }
@@ -40,14 +40,14 @@ impl<'p> Gathered<'p> {
         self.outcomes[place as usize] = Some(outcome);
     }
 
-    /// Whether all are there.
+    /// Returns whether the outcome of each store has come.
     pub fn is_whole(&self) -> bool
         ensures { IsTrue result ↔ AreThere self.now.outcomes.items }
     {
         self.outcomes.iter().all(|outcome| outcome.is_some())
     }
 
-    /// The outcome of the plan.
+    /// Returns the outcome of the plan.
     pub fn into_outcome(self, alloc: Global) -> Result<Outcome, NoMemory>
         requires { AreThere self.outcomes.items }
         ensures { IfOk result (λ outcome. outcome ≡ outcome_of self.entry.plan.now) }

@@ -9,7 +9,7 @@ pub trait Machine: Fsm<Name = Input> {
     ghost use Rattle.std.specs.Prelude.{ℕ};
     ghost use Rattle.rs_entry.specs.declared.input.Input.{Input};
 
-    /// How many of them a plan has.
+    /// The number of machines of this kind that a plan has.
     ghost count: { Input → ℕ };
 }
 

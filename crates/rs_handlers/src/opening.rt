@@ -16,7 +16,7 @@ use rs_peer::PeerFsm;
 use rs_router::{Desks, QueueScheduler, Router, SchedulerPass};
 use std::alloc::Global;
 
-/// The peer machine of each address.
+/// Returns the peer machine of each address.
 pub fn peer_machines<'p>(alloc: Global, plan: &'p Plan) -> Result<Rows<PeerFsm<'p>>, NoMemory>
     ensures count { IfOk result (λ machines. length machines ≡ count_of plan.now) }
     ensures name { IfOk result (λ machines. All (λ machine. machine.plan.now ≡ plan.now) machines) }
@@ -28,7 +28,7 @@ pub fn peer_machines<'p>(alloc: Global, plan: &'p Plan) -> Result<Rows<PeerFsm<'
     Ok(machines)
 }
 
-/// The apply machine of each address.
+/// Returns the apply machine of each address.
 pub fn apply_machines<'p>(alloc: Global, plan: &'p Plan) -> Result<Rows<ApplyFsm<'p>>, NoMemory>
     ensures count { IfOk result (λ machines. length machines ≡ count_of plan.now) }
     ensures name { IfOk result (λ machines. All (λ machine. machine.plan.now ≡ plan.now) machines) }
@@ -40,7 +40,7 @@ pub fn apply_machines<'p>(alloc: Global, plan: &'p Plan) -> Result<Rows<ApplyFsm
     Ok(machines)
 }
 
-/// The control machine of each store, and the places of those that are complete from the start.
+/// Returns the control machine of each store, and the places of those that are complete from the start.
 pub fn control_machines<'p>(
     alloc: Global,
     plan: &'p Plan,
@@ -59,7 +59,7 @@ pub fn control_machines<'p>(
     Ok((machines, out))
 }
 
-/// The control machine of the store at the place. It is named where it is complete from the start.
+/// Returns the control machine of the store at the place. It is named where it is complete from the start.
 fn control_machine<'p>(
     alloc: Global,
     plan: &'p Plan,
@@ -120,7 +120,7 @@ fn seat<'r, 'p, F: Machine>(
     }
 }
 
-/// The seats at a new router's machines: each of the desks with a pass.
+/// Returns the seats at a new router's machines: each of the desks with a pass.
 pub fn seats<'r, 'p, F: Machine>(
     alloc: Global,
     plan: &'p Plan,

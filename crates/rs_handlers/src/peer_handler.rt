@@ -61,7 +61,7 @@ impl<'r, 'p> Handler<PeerFsm<'p>, QueueScheduler> for PeerHandler<'r, 'p> {
         Ok(())
     }
 
-    /// A peer machine does all at once, and never asks for more.
+    /// Does nothing and never asks for more: a peer machine handles each message at once.
     fn advance(
         &mut self,
         _machine: &mut PeerFsm<'p>,

@@ -40,6 +40,7 @@ abbrev pub pair_with : List ℕ → Option (List ℕ) → Option Pair
 pair_with key None = None
 pair_with key (Some value) = Some (record { key = key; value = value })
 
+-- the key's pair, if its last item is a put
 abbrev pub pair_of : KeyHistory → Option Pair
 pair_of h = pair_with h.key (last_value h.items)
 

@@ -21,9 +21,10 @@ told_length key = if nat_lt 15 (length key) then 16 else length key
 abbrev pub code : List ℕ → ℕ
 code key = 256 * digits 15 key + told_length key
 
+-- each number is a byte
 abbrev pub AreBytes : List ℕ → Type 0
 AreBytes xs = AllByRecursion (λ b. b < 256) xs
 
--- the byte at a place, 0 where there is none
+-- the byte at a place, 0 if there is none
 abbrev pub byte_at : List ℕ → ℕ → ℕ
 byte_at xs i = if nat_lt i (length xs) then slice_index xs i else 0

@@ -43,6 +43,7 @@ lines_in store f ids = filter_map (λ id. region_line store id (f id)) ids
 
 -- ---- replies
 
+-- the line of a reply in the outcome
 abbrev pub reply_line : Replied → ReplyLine
 reply_line y = record { region = y.region; index = y.index; reply = y.reply }
 
@@ -58,6 +59,7 @@ by_region (y ∷ ys) = put_reply y (by_region ys)
 
 -- ---- keys that a removed region held
 
+-- the mode is that of a region whose peer on the store was removed
 abbrev pub is_removed : Mode → Bool
 is_removed mode.Removed = true
 is_removed m = false
@@ -81,6 +83,7 @@ shown removed writes = filter (λ w. is_shown removed w.key) writes
 
 -- ---- outcomes
 
+-- the outcome of a store with these regions, replies and histories
 abbrev pub outcome_with : ℕ → List RegionLine → List ReplyLine → List KeyHistory → StoreOutcome
 outcome_with id regions replies histories = record {
   id = id;
@@ -95,7 +98,7 @@ abbrev pub outcome_at : Store → Applied → StoreOutcome
 outcome_at store g =
     outcome_with store.id (lines_in store g.region (ids_of store)) (map reply_line g.replies) (histories_of (shown (removed_in g.region (ids_of store)) g.writes))
 
--- of an order that ends with a fault, as none of a plan does, nothing comes
+-- the outcome of a store's order; it is empty if the order ends with a fault, as none of a plan does
 abbrev pub outcome_by : Store → Stepped → StoreOutcome
 outcome_by store (Went g) = outcome_at store g
 outcome_by store (Broke fault) = outcome_with store.id [] [] []
@@ -110,6 +113,7 @@ outcome_of input = record { stores = map store_outcome input.stores }
 
 -- ---- one history
 
+-- the items of the key's history in the store, if both exist
 abbrev pub history_at : Option StoreOutcome → List ℕ → Option (List Item)
 history_at None key = None
 history_at (Some s) key = option_map (λ (h : KeyHistory). h.items) (find (λ h. same_bytes h.key key) s.histories)

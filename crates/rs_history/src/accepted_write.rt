@@ -14,7 +14,7 @@ use rs_key::{Key, NoMemory, TryClone};
 use std::cmp::Ordering;
 use std::marker::Model;
 
-/// How many values the lower half of a code has.
+/// The number of values of the lower half of a code.
 const HALF: u128 = 1 << 64;
 
 /// One accepted operation of an entry, with the code of its key in two halves, so that it has 40 bytes. Contracts see
@@ -42,6 +42,7 @@ impl<'a> Model for AcceptedWrite<'a> {
 }
 
 impl<'a> AcceptedWrite<'a> {
+    /// Returns the write of this operation, by the region's entry at the index.
     pub fn new(region: u64, index: u64, op: &'a Op) -> AcceptedWrite<'a>
         ensures { result ≡ wrote region index op.now }
     {
@@ -55,13 +56,14 @@ impl<'a> AcceptedWrite<'a> {
         }
     }
 
+    /// Returns the key that was written.
     pub fn key(&self) -> &'a Key
         ensures { result.now ≡ self.now.key }
     {
         op_key(self.op)
     }
 
-    /// What the history of its key has of it, as a copy.
+    /// Returns what the history of its key has of it, as a copy.
     pub fn item(&self) -> Result<Item, NoMemory>
         ensures { IfOk result (λ item. item ≡ item_of self.now) }
     {
@@ -76,7 +78,7 @@ impl<'a> AcceptedWrite<'a> {
         })
     }
 
-    /// The same write, of the same operation.
+    /// Returns the same write, of the same operation.
     pub fn again(&self) -> AcceptedWrite<'a>
         ensures { result ≡ self.now }
     {
@@ -89,7 +91,7 @@ impl<'a> AcceptedWrite<'a> {
         }
     }
 
-    /// Whether the two writes are of one key.
+    /// Returns whether the two writes are of one key.
     #[tactic(auto, using(crate::proofs::HistoryLaws::same_as))]
     pub fn has_key_of(&self, other: &AcceptedWrite<'_>) -> bool
         ensures { result ≡ same_bytes self.now.key other.now.key }
@@ -97,7 +99,7 @@ impl<'a> AcceptedWrite<'a> {
         self.compare(other).is_eq()
     }
 
-    /// Whether the write's key is below this one, whose code this is.
+    /// Returns whether the write's key is below this one, whose code this is.
     pub(crate) fn is_below(&self, key: &Key, at: u128) -> bool
         requires code { at ≡ code key.now }
         requires bytes { AreBytes key.now }
@@ -109,7 +111,7 @@ impl<'a> AcceptedWrite<'a> {
         }
     }
 
-    /// The code of the key.
+    /// Returns the code of the key.
     fn code(&self) -> u128
         ensures code { result ≡ code self.now.key }
         ensures bytes { AreBytes self.now.key }
@@ -117,7 +119,7 @@ impl<'a> AcceptedWrite<'a> {
         u128::from(self.high) * HALF + u128::from(self.low)
     }
 
-    /// The order of the keys.
+    /// Returns the order of the keys.
     pub fn compare(&self, other: &AcceptedWrite<'_>) -> Ordering
         ensures { result ≡ slice_cmp nat_cmp self.now.key other.now.key }
     {

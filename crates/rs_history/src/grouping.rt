@@ -7,7 +7,7 @@ use rs_entry::{Item, KeyHistory};
 use rs_key::{NoMemory, Rows, TryClone};
 use std::alloc::Global;
 
-/// One history for each run of writes of one key.
+/// Returns one history for each run of writes of one key.
 pub fn grouped(alloc: Global, writes: &[AcceptedWrite<'_>]) -> Result<Rows<KeyHistory>, NoMemory>
     ensures { IfOk result (λ histories. histories ≡ groups writes.now) }
 {
@@ -22,7 +22,7 @@ pub fn grouped(alloc: Global, writes: &[AcceptedWrite<'_>]) -> Result<Rows<KeyHi
     Ok(histories)
 }
 
-/// The history that the writes at the front make, as far as they are of one key.
+/// Returns the history that the writes at the front make, as far as they are of one key.
 fn first_run(alloc: Global, writes: &[AcceptedWrite<'_>]) -> Result<KeyHistory, NoMemory>
     requires { 0 < length writes.now }
     ensures some { IfOk result (λ h. 0 < length h.items) }
@@ -37,7 +37,7 @@ fn first_run(alloc: Global, writes: &[AcceptedWrite<'_>]) -> Result<KeyHistory, 
     })
 }
 
-/// How many writes at the front are of the first one's key.
+/// Returns how many writes at the front are of the first one's key.
 fn run_length(first: &AcceptedWrite<'_>, writes: &[AcceptedWrite<'_>]) -> usize
     requires { slice_get writes.now 0 ≡ Some first.now }
     ensures some { 0 < result }
@@ -52,7 +52,7 @@ fn run_length(first: &AcceptedWrite<'_>, writes: &[AcceptedWrite<'_>]) -> usize
     writes.len()
 }
 
-/// What the histories have of the writes.
+/// Returns what the histories have of the writes.
 fn items_of(alloc: Global, writes: &[AcceptedWrite<'_>]) -> Result<Rows<Item>, NoMemory>
     ensures { IfOk result (λ items. items ≡ map item_of writes.now) }
 {

@@ -7,10 +7,10 @@ ghost use Rattle.rs_history.specs.KeyCodes.{AreBytes, byte_at, code, digits, pla
 
 use std::cmp::Ordering;
 
-/// How many bytes of a key its code tells: so many that it fits 128 bits with one byte for the length.
+/// The number of bytes of a key that its code tells. With one byte for the length they fit 128 bits.
 const TOLD: usize = 15;
 
-/// What stands for the length of a key that has more bytes than its code tells.
+/// The code's length of a key that has more bytes than its code tells.
 const LONG: u128 = 16;
 
 fn byte_at(key: &[u8], place: usize) -> u128
@@ -23,7 +23,7 @@ fn byte_at(key: &[u8], place: usize) -> u128
     }
 }
 
-/// The first 15 bytes of a key as a number, 0 for each that is missing.
+/// Returns the first 15 bytes of a key as a number, 0 for each that is missing.
 fn digits_of(key: &[u8]) -> u128
     ensures value { result ≡ digits 15 key.now }
     ensures bound { result < places 15 }
@@ -35,7 +35,7 @@ fn digits_of(key: &[u8]) -> u128
     number
 }
 
-/// The length of a key, 16 where it is more.
+/// Returns the length of a key, 16 where it is more.
 fn told_length(key: &[u8]) -> u128
     ensures value { result ≡ told_length key.now }
     ensures bound { result ≤ 16 }
@@ -47,7 +47,7 @@ fn told_length(key: &[u8]) -> u128
     }
 }
 
-/// The code of a key: its first 15 bytes as a number, and then its length.
+/// Returns the code of a key: its first 15 bytes as a number, and then its length.
 pub fn code_of(key: &[u8]) -> u128
     ensures value { result ≡ code key.now }
     ensures bytes { AreBytes key.now }
@@ -55,7 +55,7 @@ pub fn code_of(key: &[u8]) -> u128
     256 * digits_of(key) + told_length(key)
 }
 
-/// What the codes of two keys tell of the order of the keys: all, unless both are long and begin alike.
+/// Returns what the codes of two keys tell of the order of the keys: all, unless both are long and begin alike.
 pub fn order_told(a: u128, b: u128) -> Option<Ordering>
     ensures { (x y : List ℕ) → AreBytes x → AreBytes y → a ≡ code x → b ≡ code y → IfSome result (λ order. order ≡ slice_cmp nat_cmp x y) }
 {

@@ -6,7 +6,7 @@ use rs_entry::{Item, KeyHistory, Pair};
 use rs_key::{NoMemory, Rows, TryClone, Value};
 use std::alloc::Global;
 
-/// Each key with its last value, where its last write isn't a deletion.
+/// Returns each key with its last value, where its last write isn't a deletion.
 pub fn pairs_of(alloc: Global, histories: &Rows<KeyHistory>) -> Result<Rows<Pair>, NoMemory>
     ensures { IfOk result (λ pairs. pairs ≡ pairs_of histories.now) }
 {
@@ -32,7 +32,7 @@ fn pair_of(history: &KeyHistory) -> Result<Option<Pair>, NoMemory>
     }
 }
 
-/// The value of the last write, none where it is a deletion.
+/// Returns the value of the last write, none where it is a deletion.
 fn last_value(items: &[Item]) -> Option<&Value>
     ensures { option_copied result ≡ last_value items.now }
 {

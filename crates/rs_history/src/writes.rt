@@ -31,6 +31,7 @@ impl<'a> Model for Writes<'a> {
 }
 
 impl<'a> Writes<'a> {
+    /// Returns the empty list. It takes no memory.
     pub fn new(alloc: Global) -> Writes<'a>
         ensures { result ≡ [] }
     {
@@ -49,13 +50,14 @@ impl<'a> Writes<'a> {
         Ok(())
     }
 
-    /// How many writes there are.
+    /// Returns how many writes there are.
     pub fn len(&self) -> usize
         ensures { result ≡ length self.now }
     {
         self.items.len()
     }
 
+    /// Returns whether there are no writes.
     pub fn is_empty(&self) -> bool
         ensures { IsTrue result ↔ (length self.now ≡ 0) }
     {
@@ -81,7 +83,7 @@ impl<'a> Writes<'a> {
         Ok(())
     }
 
-    /// The writes of the keys below this one, and those of the others, both in their order.
+    /// Returns the writes of the keys below this one, and those of the others, both in their order.
     pub fn split_at(self, alloc: Global, key: &Key) -> Result<(Writes<'a>, Writes<'a>), NoMemory>
         ensures below { IfOk result (λ parts. parts.0 ≡ filter (is_below key.now) self.entry) }
         ensures others { IfOk result (λ parts. parts.1 ≡ filter (isnt_below key.now) self.entry) }
@@ -99,7 +101,7 @@ impl<'a> Writes<'a> {
         Ok((Writes { items: below }, Writes { items: others }))
     }
 
-    /// The writes whose keys lie in none of these ranges, in their order.
+    /// Returns the writes whose keys lie in none of these ranges, in their order.
     #[tactic(auto, using(crate::proofs::ShownLaws::all_shown))]
     pub fn outside(self, alloc: Global, ranges: &[Range]) -> Result<Writes<'a>, NoMemory>
         ensures { IfOk result (λ writes. writes ≡ shown ranges.now self.entry) }
@@ -111,7 +113,7 @@ impl<'a> Writes<'a> {
         Ok(Writes { items })
     }
 
-    /// The history of each key that is written, by key.
+    /// Returns the history of each key that is written, by key.
     ///
     /// The writes are sorted by their keys, and those of one key keep their order.
     pub fn into_histories(self, alloc: Global) -> Result<Rows<KeyHistory>, NoMemory>
@@ -140,7 +142,7 @@ fn kept<'a>(
     Ok(items)
 }
 
-/// Whether the key lies in none of the ranges.
+/// Returns whether the key lies in none of the ranges.
 fn is_shown(ranges: &[Range], key: &Key) -> bool
     ensures { result ≡ is_shown ranges.now key.now }
 {

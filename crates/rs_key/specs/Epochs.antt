@@ -18,22 +18,22 @@ fits Commit region proposed = same_epochs region proposed
 fits Rollback region proposed = same_epochs region proposed
 fits Conf region proposed = region.conf_ver == proposed.conf_ver
 
--- after a split into so many new regions
+-- the epoch after a split that makes n new regions
 abbrev pub after_split : Epoch → ℕ → Epoch
 after_split e n = record { conf_ver = e.conf_ver; version = e.version + n }
 
--- after a prepared merge, of the source
+-- the source's epoch after a prepared merge
 abbrev pub after_prepare : Epoch → Epoch
 after_prepare e = record { conf_ver = e.conf_ver + 1; version = e.version + 1 }
 
--- after a committed merge, of the target
+-- the target's epoch after a committed merge
 abbrev pub after_commit : Epoch → Epoch → Epoch
 after_commit e source = record { conf_ver = e.conf_ver; version = max e.version source.version + 1 }
 
--- after a prepared merge was rolled back, of the source
+-- the source's epoch after its prepared merge was rolled back
 abbrev pub after_rollback : Epoch → Epoch
 after_rollback e = record { conf_ver = e.conf_ver; version = e.version + 1 }
 
--- after a conf change
+-- the epoch after a conf change
 abbrev pub after_conf : Epoch → Epoch
 after_conf e = record { conf_ver = e.conf_ver + 1; version = e.version }

@@ -3,7 +3,7 @@ use Rattle.std.specs.Prelude.{ℕ, List}
 use Rattle.rs_key.specs.declared.bytes.Form.{Form}
 use Rattle.rs_key.specs.declared.bytes.Form.TheVariants as form
 
--- in either form the list of them
+-- the bytes that either form holds
 abbrev pub bytes_of : Form → List ℕ
 bytes_of (form.Short short) = short
 bytes_of (form.Long heap) = heap.value.items

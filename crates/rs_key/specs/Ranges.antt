@@ -10,7 +10,7 @@ pub record Bounds : Type 0 where
   pub start : Option (List ℕ)
   pub end : Option (List ℕ)
 
--- where both bounds are there, the start is below the end
+-- the start is below the end if both bounds are there
 abbrev pub is_range : Option (List ℕ) → Option (List ℕ) → Bool
 is_range None end = true
 is_range (Some start) None = true

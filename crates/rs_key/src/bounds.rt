@@ -6,14 +6,14 @@ ghost use Rattle.rs_key.specs.Ranges.{is_range, is_from, is_to, is_past, meets};
 
 use crate::key::Key;
 
-/// Whether the first key is below the second.
+/// Returns whether the first key is below the second.
 pub fn is_below(a: &Key, b: &Key) -> bool
     ensures { result ≡ is_below a.now b.now }
 {
     a.as_bytes().cmp(b.as_bytes()).is_lt()
 }
 
-/// Whether the start is below the end, where both are there.
+/// Returns whether the start is below the end, where both are there.
 pub fn is_range(start: &Option<Key>, end: &Option<Key>) -> bool
     ensures { result ≡ is_range start.now end.now }
 {
@@ -23,7 +23,7 @@ pub fn is_range(start: &Option<Key>, end: &Option<Key>) -> bool
     }
 }
 
-/// Whether the key isn't below the start.
+/// Returns whether the key isn't below the start.
 pub fn is_from(start: &Option<Key>, key: &Key) -> bool
     ensures { result ≡ is_from start.now key.now }
 {
@@ -33,7 +33,7 @@ pub fn is_from(start: &Option<Key>, key: &Key) -> bool
     }
 }
 
-/// Whether the key is above the start.
+/// Returns whether the key is above the start.
 pub fn is_past(start: &Option<Key>, key: &Key) -> bool
     ensures { result ≡ is_past start.now key.now }
 {
@@ -43,7 +43,7 @@ pub fn is_past(start: &Option<Key>, key: &Key) -> bool
     }
 }
 
-/// Whether the key is below the end.
+/// Returns whether the key is below the end.
 pub fn is_to(end: &Option<Key>, key: &Key) -> bool
     ensures { result ≡ is_to end.now key.now }
 {
@@ -53,7 +53,7 @@ pub fn is_to(end: &Option<Key>, key: &Key) -> bool
     }
 }
 
-/// Whether a range with this end is followed by one with this start.
+/// Returns whether a range with this end is followed by one with this start.
 pub fn meets(end: &Option<Key>, start: &Option<Key>) -> bool
     ensures { result ≡ meets end.now start.now }
 {

@@ -39,14 +39,14 @@ impl Bytes {
     /// The most bytes that are held in place.
     pub const SHORT: usize = Short::MOST;
 
-    /// No bytes. It takes no memory.
+    /// Returns the empty list. It takes no memory.
     pub fn empty() -> Bytes
         ensures { result ≡ [] }
     {
         Bytes::from_array([0; Bytes::SHORT], 0)
     }
 
-    /// The first so many bytes of the array. It takes no memory.
+    /// Returns the first `len` bytes of the array. It takes no memory.
     pub fn from_array(array: [u8; Bytes::SHORT], len: usize) -> Bytes
         requires { len ≤ 22 }
         ensures { result ≡ take len array }
@@ -56,7 +56,7 @@ impl Bytes {
         }
     }
 
-    /// A copy of these bytes. Memory is wanted only for more than 22 of them.
+    /// Returns a copy of these bytes. Memory is wanted only for more than 22 of them.
     pub fn new(alloc: Global, bytes: &[u8]) -> Result<Bytes, NoMemory>
         ensures ok { IfOk result (λ b. b ≡ bytes.now) }
         ensures err { OnErr result (22 < length bytes.now) }
@@ -69,7 +69,8 @@ impl Bytes {
         Ok(Bytes::from_array(array, bytes.len()))
     }
 
-    /// These bytes, without a copy, on the heap however few they are. Memory is wanted for the box that they are put in.
+    /// Returns these bytes, without a copy, on the heap however few they are. Memory is wanted for the box that they
+    /// are put in.
     pub fn from_vec(alloc: Global, bytes: Vec<u8>) -> Result<Bytes, NoMemory>
         ensures { IfOk result (λ b. b ≡ bytes.items) }
     {
@@ -78,6 +79,7 @@ impl Bytes {
         })
     }
 
+    /// Returns the bytes.
     pub fn as_slice(&self) -> &[u8]
         ensures { result.now ≡ self.now }
     {

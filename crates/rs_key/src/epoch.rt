@@ -1,7 +1,7 @@
 ghost use Rattle.std.specs.Prelude.{◌≡◌, ◌<◌, ◌≤◌, ◌^◌};
 ghost use Rattle.rs_key.specs.Epochs.{fits, after_split, after_prepare, after_commit, after_rollback, after_conf};
 
-/// How often a region changed: its list of peers by `conf_ver`, its range by `version`.
+/// The epoch of a region: `conf_ver` counts the changes of its peers, `version` those of its range.
 #[derive(Clone, Copy, Debug, PartialEq, Eq)]
 pub struct Epoch {
     pub conf_ver: u64,
@@ -21,7 +21,7 @@ pub enum Kind {
 }
 
 impl Epoch {
-    /// Whether an entry of this kind that was proposed at the other epoch fits a region at this one.
+    /// Returns whether an entry of this kind that was proposed at the other epoch fits a region at this one.
     ///
     /// An empty entry always does. A write and a split compare the version, a conf change compares conf_ver,
     /// and the three kinds of a merge compare both.
@@ -38,7 +38,7 @@ impl Epoch {
         }
     }
 
-    /// The version rises by the number of new regions.
+    /// Returns the epoch after a split. The version rises by the number of new regions.
     pub fn after_split(self, n: u64) -> Epoch
         requires version { self.version < 2 ^ 62 }
         requires few { n ≤ 64 }
@@ -50,7 +50,7 @@ impl Epoch {
         }
     }
 
-    /// Both numbers rise by one.
+    /// Returns the source's epoch after a prepared merge. Both numbers rise by one.
     pub fn after_prepare(self) -> Epoch
         requires conf_ver { self.conf_ver < 2 ^ 62 }
         requires version { self.version < 2 ^ 62 }
@@ -62,7 +62,7 @@ impl Epoch {
         }
     }
 
-    /// The version becomes one more than the greater of both versions.
+    /// Returns the target's epoch after a committed merge. The version becomes one more than the greater of both.
     pub fn after_commit(self, source: Epoch) -> Epoch
         requires version { self.version < 2 ^ 62 }
         requires source_version { source.version < 2 ^ 62 }
@@ -74,7 +74,7 @@ impl Epoch {
         }
     }
 
-    /// The version rises by one.
+    /// Returns the source's epoch after a rolled back merge. The version rises by one.
     pub fn after_rollback(self) -> Epoch
         requires { self.version < 2 ^ 62 }
         ensures { result ≡ after_rollback self }
@@ -85,7 +85,7 @@ impl Epoch {
         }
     }
 
-    /// `conf_ver` rises by one.
+    /// Returns the epoch after a conf change. `conf_ver` rises by one.
     pub fn after_conf(self) -> Epoch
         requires { self.conf_ver < 2 ^ 62 }
         ensures { result ≡ after_conf self }

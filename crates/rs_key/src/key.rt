@@ -11,10 +11,10 @@ use std::cmp::Ordering;
 use std::marker::Model;
 use thiserror::Error;
 
-/// Why some bytes are no key, or no value.
+/// The error of bytes that are no key, or no value.
 #[derive(Clone, Copy, Debug, PartialEq, Eq, Error)]
 pub enum KeyError {
-    /// There are too few or too many.
+    /// The number of bytes is outside the limits.
     #[error("too few or too many bytes")]
     BadLength,
     /// Memory ran out.
@@ -56,7 +56,7 @@ impl Key {
     /// The most bytes of a key.
     pub const MOST: usize = 256;
 
-    /// A copy of these bytes as a key. BadLength comes exactly where there are none, or more than 256.
+    /// Returns a copy of these bytes as a key. BadLength comes exactly where there are none, or more than 256.
     pub fn new(alloc: Global, bytes: &[u8]) -> Result<Key, KeyError>
         ensures ok { IfOk result (λ k. k ≡ bytes.now) }
         ensures bad { IsErrOf result KeyError.BadLength ↔ ((length bytes.now ≡ 0) ⊎ (256 < length bytes.now)) }
@@ -68,7 +68,7 @@ impl Key {
         Ok(Key { bytes })
     }
 
-    /// The key of these bytes, without a copy.
+    /// Returns the key of these bytes, without a copy.
     pub fn from_bytes(bytes: Bytes) -> Key
         requires some { 1 ≤ length bytes }
         requires most { length bytes ≤ 256 }
@@ -77,6 +77,7 @@ impl Key {
         Key { bytes }
     }
 
+    /// Returns the bytes: 1 to 256 of them.
     pub fn as_bytes(&self) -> &[u8]
         ensures value { result.now ≡ self.now }
         ensures some { 0 < length self.now }

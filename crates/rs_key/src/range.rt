@@ -37,7 +37,7 @@ pub struct Empty {
     pub end: Option<Key>,
 }
 
-/// Why a range wasn't cut.
+/// The error of a range that wasn't cut.
 #[derive(Clone, Copy, Debug, PartialEq, Eq, Error)]
 pub enum CutError {
     /// The key at this place, counted from 1, isn't above the one before it or isn't below the end.
@@ -49,7 +49,8 @@ pub enum CutError {
 }
 
 impl Range {
-    /// The range between these bounds. Empty comes exactly where both are there and the start isn't below the end.
+    /// Returns the range between these bounds. Empty comes exactly where both are there and the start isn't below the
+    /// end.
     pub fn new(start: Option<Key>, end: Option<Key>) -> Result<Range, Empty>
         ensures ok { IfOk result (λ r. r ≡ record { start = start; end = end }) }
         ensures err { IfErr result (λ e. (e.start ≡ start) × (e.end ≡ end)) }
@@ -62,19 +63,21 @@ impl Range {
         }
     }
 
+    /// Returns the least key of the range; `None` if nothing bounds it below.
     pub fn start(&self) -> &Option<Key>
         ensures { result.now ≡ self.now.start }
     {
         &self.start
     }
 
+    /// Returns the key that ends the range, which isn't in it; `None` if nothing bounds it above.
     pub fn end(&self) -> &Option<Key>
         ensures { result.now ≡ self.now.end }
     {
         &self.end
     }
 
-    /// Whether the key is in the range.
+    /// Returns whether the key is in the range.
     #[tactic(auto, using(crate::proofs::RangeLaws::key_is_key))]
     pub fn holds(&self, key: &Key) -> bool
         ensures { result ≡ holds self.now key.now }
@@ -82,14 +85,14 @@ impl Range {
         !key.as_bytes().is_empty() && (is_from(&self.start, key) && is_to(&self.end, key))
     }
 
-    /// Whether one of the two ranges ends where the other begins.
+    /// Returns whether one of the two ranges ends where the other begins.
     pub fn is_next_to(&self, other: &Range) -> bool
         ensures { result ≡ is_next_to self.now other.now }
     {
         meets(&self.end, &other.start) || meets(&other.end, &self.start)
     }
 
-    /// The range from the start of the left one to the end of the right one.
+    /// Returns the range from the start of the left one to the end of the right one.
     pub fn join(self, other: Range) -> Range
         requires { is_next_to self other ≡ true }
         ensures { result ≡ join self other }
@@ -107,7 +110,7 @@ impl Range {
         }
     }
 
-    /// The first place, counted from 1, whose key isn't above the one before it (the start, for the first)
+    /// Returns the first place, counted from 1, whose key isn't above the one before it (the start, for the first)
     /// or isn't below the end. It takes no memory.
     pub fn first_bad_cut(&self, keys: &[Key]) -> Option<usize>
         ensures { result ≡ first_bad_cut self.now keys.now }
@@ -124,7 +127,7 @@ impl Range {
         }
     }
 
-    /// The ranges from left to right, one more than there are keys.
+    /// Returns the ranges from left to right, one more than there are keys.
     ///
     /// BadCut comes exactly where `first_bad_cut` finds a place, with that place.
     pub fn cut(&self, alloc: Global, keys: &[Key]) -> Result<Rows<Range>, CutError>
@@ -166,7 +169,7 @@ fn bad_cut_from(place: usize, before: &Key, end: &Option<Key>, keys: &[Key]) -> 
     }
 }
 
-/// The ranges between the start, the keys and the end.
+/// Returns the ranges between the start, the keys and the end.
 fn cut_at(alloc: Global, range: &Range, keys: &[Key]) -> Result<Rows<Range>, NoMemory>
     requires { first_bad_cut range.now keys.now ≡ None }
     ensures { IfOk result (λ ranges. ranges ≡ cut range.now keys.now) }

@@ -23,7 +23,7 @@ impl Short {
     /// The most bytes that fit.
     pub const MOST: usize = 22;
 
-    /// The first so many bytes of the array.
+    /// Returns the first `len` bytes of the array.
     pub fn new(array: [u8; Short::MOST], len: usize) -> Short
         requires { len ≤ 22 }
         ensures { result ≡ take len array }
@@ -34,13 +34,14 @@ impl Short {
         }
     }
 
+    /// Returns the bytes.
     pub fn as_slice(&self) -> &[u8]
         ensures { result.now ≡ self.now }
     {
         &self.array[..self.len as usize]
     }
 
-    /// An equal value.
+    /// Returns an equal value.
     pub fn copy(&self) -> Short
         ensures { result ≡ self.now }
     {

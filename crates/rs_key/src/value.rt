@@ -9,7 +9,7 @@ use rs_rows::{NoMemory, TryClone};
 use std::alloc::Global;
 use std::marker::Model;
 
-/// What a key is given: 0 to 4,096 bytes. Contracts see the list of its bytes.
+/// The value of a key: 0 to 4,096 bytes. Contracts see the list of its bytes.
 ///
 /// Its bytes are held as `Bytes` holds them.
 #[derive(Debug, Drop)]
@@ -31,7 +31,7 @@ impl Value {
     /// The most bytes of a value.
     pub const MOST: usize = 4096;
 
-    /// A copy of these bytes as a value. BadLength comes exactly where there are more than 4,096.
+    /// Returns a copy of these bytes as a value. BadLength comes exactly where there are more than 4,096.
     pub fn new(alloc: Global, bytes: &[u8]) -> Result<Value, KeyError>
         ensures ok { IfOk result (λ v. v ≡ bytes.now) }
         ensures bad { IsErrOf result KeyError.BadLength ↔ (4096 < length bytes.now) }
@@ -43,7 +43,7 @@ impl Value {
         Ok(Value { bytes })
     }
 
-    /// The value of these bytes, without a copy.
+    /// Returns the value of these bytes, without a copy.
     pub fn from_bytes(bytes: Bytes) -> Value
         requires { length bytes ≤ 4096 }
         ensures { result ≡ bytes }
@@ -51,6 +51,7 @@ impl Value {
         Value { bytes }
     }
 
+    /// Returns the bytes: 0 to 4,096 of them.
     pub fn as_bytes(&self) -> &[u8]
         ensures value { result.now ≡ self.now }
         ensures most { length self.now ≤ 4096 }

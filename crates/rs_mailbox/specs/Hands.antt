@@ -12,9 +12,11 @@ module _ {T N : Type 0} where
   abbrev pub seen : Hand T N → View N
   seen hand = hand.seat.me.0
 
+  -- the name of the machine that the handover is for
   abbrev pub handover_name : (T → N) → Handover T N → N
   handover_name name_of h = name_of h.table.shared.key
 
+  -- the hand has its seat at the handover's table
   abbrev pub IsHandOf : (T → N) → Handover T N → Hand T N → Type 0
   IsHandOf name_of h hand = IsSeatOf h.table.shared.table_id (name_of h.table.shared.key) hand.seat
 

@@ -16,12 +16,15 @@ of p (s ∷ ss) [] = []
 of p (s ∷ ss) (x ∷ xs) = kept (s == p) x (of p ss xs)
 
 module _ {N M : Type 0} where
+  -- the trail of the one who makes the queue
   abbrev pub beginning : Trail N M
   beginning = record { name = None; number = 0; made = 1; sent = []; got = [] }
 
+  -- the trail after a message was sent
   abbrev pub sends : Trail N M → M → Trail N M
   sends v x = record v { sent = v.sent ++ x ∷ [] }
 
+  -- the trail after a message was taken
   abbrev pub gets : Trail N M → M → Trail N M
   gets v x = record v { got = v.got ++ x ∷ [] }
 
@@ -29,6 +32,7 @@ module _ {N M : Type 0} where
   abbrev pub founder : Option N → Trail N M → Trail N M
   founder n v = record v { name = n; made = v.made + 1 }
 
+  -- the trail of a new member, which has sent and taken nothing
   abbrev pub member : Option N → Trail N M → Trail N M
   member n v = record { name = n; number = v.made; made = 0; sent = []; got = [] }
 
@@ -54,6 +58,7 @@ module _ {N M : Type 0} where
   abbrev pub StandsAt : (M → N) → Trail N M → List M → Type 0
   StandsAt name_of v items = (views : List (Trail N M)) × (pass : ℕ) × IsInOrder name_of items views × (get_elem? views pass ≡ some v)
 
+  -- the trail fits a queue that holds some messages
   abbrev pub Stands : (M → N) → Trail N M → Type 0
   Stands name_of v = (items : List M) × StandsAt name_of v items
 

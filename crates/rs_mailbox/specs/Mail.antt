@@ -21,24 +21,25 @@ use Rattle.rs_mailbox.specs.declared.outcomes.SendError.TheVariants.{Closed, NoM
 use Rattle.rs_mailbox.specs.InOrder.{sends}
 use Rattle.rs_mailbox.specs.Steps.{deed, moved, turns}
 
--- after a look that found this word
+-- the view after a look that found this word
 abbrev pub looked : {N : Type 0} → View N → ℕ → View N
 looked v word = turns v Calm v.stance.remembered (deed Look word 0)
 
--- after a look, an announcement and a notification
+-- the view after a look, an announcement and a notification
 abbrev pub told : {N : Type 0} → View N → ℕ → ℕ → ℕ → View N
 told v word before found = turns (moved (looked v word) Notifying (v.stance.announced + 1) v.stance.remembered (deed Announce before 0)) Calm v.stance.remembered (deed Notify found 0)
 
--- after the machine went home and no more was announced
+-- the view after the machine went home and no more was announced
 abbrev pub rested : {N : Type 0} → View N → ℕ → ℕ → View N
 rested v handled announced = turns (turns v Releasing handled (deed Release 3 handled)) Calm handled (deed Recheck announced 0)
 
--- after the machine went home and more was announced
+-- the view after the machine went home and more was announced
 abbrev pub rechecked : {N : Type 0} → View N → ℕ → ℕ → View N
 rechecked v handled announced = turns (turns v Releasing handled (deed Release 3 handled)) Releasing handled (deed Recheck announced 0)
 
 module _ {N P M : Type 0} where
-  -- of the views before, the message, the refusal and the views after: nothing was pushed, and the look found Drop exactly where the refusal is Closed
+  -- the refusal of a message, by the views before and after: nothing was pushed, and the look found Drop exactly
+  -- where the refusal is Closed
   abbrev pub Refuses : View N → Trail P M → M → SendError M → View N → Trail P M → Type 0
   Refuses v t x (Closed y) w u = (y ≡ x) × (w ≡ looked v 2) × (u ≡ t)
   Refuses v t x (NoMemory y) w u = (y ≡ x) × ((word : ℕ) × (word ≢ 2) × (w ≡ looked v word)) × (u ≡ t)
@@ -50,22 +51,24 @@ module _ {N P M : Type 0} where
   Sends address v t x (Err e) w u = Refuses v t x e w u
 
 module _ {F M P : Type 0} {m : Ghosts M P} where
+  -- what holds of the turn that was taken, or of the word that was found instead
   abbrev pub MatchTaken : Taken F M P m → (Turn F M P m → Type 0) → (ℕ → Type 0) → Type 0
   MatchTaken (Machine t) Q R = Q t
   MatchTaken (Not word) Q R = R word
 
-  -- of the view before, the answer and the view after: the machine comes exactly where the word found was Notified
+  -- the take, by the views before and after: the machine comes exactly where the word found was Notified
   abbrev pub Takes : {N : Type 0} → View N → Taken F M P m → View N → Type 0
   Takes v (Machine t) w = w ≡ turns v Holding t.held.stored.handled (deed Take 0 t.held.stored.handled)
   Takes v (Not word) w = (word ≢ 0) × (w ≡ turns v Calm v.stance.remembered (deed Take word 0))
 
-  -- of the view before, the handled count and the machine that are given back, the answer and the view after
+  -- the release of a machine and its handled count, by the answer and the views before and after
   abbrev pub Gives : {N : Type 0} → View N → ℕ → F → Released F M P m → View N → Type 0
   Gives v h x Idle w = ((announced : ℕ) × (announced ≤ h) × (w ≡ rested v h announced))
       ⊎ ((announced : ℕ) × (found : ℕ) × (h < announced) × (found ≢ 1) × (w ≡ turns (rechecked v h announced) Calm h (deed Retake found 0)))
   Gives v h x (Again t) w = (announced : ℕ) × (h < announced) × (w ≡ turns (rechecked v h announced) Holding t.held.stored.handled (deed Retake 1 t.held.stored.handled))
   Gives v h x (Dropped y) w = (y ≡ x) × (w ≡ turns v Calm h (deed Release 2 h))
 
+  -- what holds of the turn if the machine has to be handled again
   abbrev pub OnAgain : Released F M P m → (Turn F M P m → Type 0) → Type 0
   OnAgain Idle Q = Unit {0}
   OnAgain (Again t) Q = Q t
@@ -90,6 +93,7 @@ module _ {N F : Type 0} where
   Shuts v gone.Already w = w ≡ turns v Calm v.stance.remembered (deed Close 2 0)
 
 module _ {F : Type 0} where
+  -- what holds of the machine that a close gives
   abbrev pub OnMachine : closing.Closed F → (F → Type 0) → Type 0
   OnMachine (gone.Machine x) Q = Q x
   OnMachine gone.Elsewhere Q = Unit {0}

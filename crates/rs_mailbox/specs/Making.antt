@@ -8,13 +8,16 @@ use Rattle.rs_mailbox.specs.declared.view.View.{View}
 use Rattle.rs_mailbox.specs.declared.stored.Stored.{Stored}
 use Rattle.rs_mailbox.specs.Steps.{IsSeatOf}
 
+-- the view of a new member, which has taken no step
 abbrev pub fresh : {N : Type 0} → N → ℕ → View N
 fresh name number = record { name = name; number = number; made = 0; unborn = false; empty = false; shut = false; stance = stance Calm 0 0; deeds = [] }
 
 module _ {N : Type 0} where
+  -- the view with one more member made
   abbrev pub with_more : View N → View N
   with_more v = record v { made = v.made + 1 }
 
+  -- the view of the member that was made last
   abbrev pub newest : View N → View N
   newest v = fresh v.name v.made
 

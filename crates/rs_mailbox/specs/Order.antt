@@ -11,9 +11,11 @@ use Rattle.rs_mailcore.specs.Tidy.{IsTidy}
 use Rattle.rs_mailbox.specs.declared.view.View.{View}
 use Rattle.rs_mailbox.specs.declared.stored.Stored.{Stored}
 
+-- the stance of a view
 abbrev pub stance_of : {N : Type 0} → View N → Stance
 stance_of v = v.stance
 
+-- the view of the one who makes the cell and holds the machine at first
 abbrev pub newcomer : {N : Type 0} → N → View N
 newcomer name = record { name = name; number = 0; made = 1; unborn = true; empty = true; shut = false; stance = stance Holding 0 0; deeds = [] }
 
@@ -21,10 +23,12 @@ newcomer name = record { name = name; number = 0; made = 1; unborn = true; empty
 abbrev pub Place : Type 0 → Type 0
 Place T = opt.Option (Option (Stored T))
 
+-- how many messages the machine in the slot has handled, if there is one
 abbrev pub in_slot : {T : Type 0} → Option (Stored T) → opt.Option ℕ
 in_slot None = none
 in_slot (Some x) = some x.handled
 
+-- how many messages the machine at home has handled, if it is there
 abbrev pub home_count : {T : Type 0} → Place T → opt.Option ℕ
 home_count none = none
 home_count (some h) = in_slot h

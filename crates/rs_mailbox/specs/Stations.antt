@@ -15,12 +15,15 @@ use Rattle.rs_mailbox.specs.ContentsNames.{contents_name, taken}
 use Rattle.rs_mailbox.specs.Steps.{IsSeatOf, IsHeldOf}
 
 module _ {F M P : Type 0} {m : Ghosts M P} where
+  -- the name of a mailbox's machine
   abbrev pub mailbox_name : (F → P) → Mailbox F M P m → P
   mailbox_name name_of b = name_of b.handover.table.shared.key.machine
 
+  -- the machine of a turn
   abbrev pub machine_of : Turn F M P m → F
   machine_of t = t.held.stored.value.machine
 
+  -- how many messages the machine of a turn has handled
   abbrev pub handled_of : Turn F M P m → ℕ
   handled_of t = t.held.stored.handled
 
@@ -37,6 +40,7 @@ module _ {F M P : Type 0} {d : fsm.Ghosts F M P} {n : Ghosts F P} {k : Ghosts M 
   abbrev pub trail : Station F M P d n k → Trail P M
   trail s = s.sender.me.view.client
 
+  -- no call of the station is under way
   abbrev pub IsCalm : Station F M P d n k → Type 0
   IsCalm s = (view s).stance.phase ≡ Calm
 

@@ -4,7 +4,7 @@ use crate::stored::HasCount;
 use crate::trail::{MessagePass, MessageQueue};
 use rs_mailcore::{Fsm, Named};
 
-/// What a mailbox's handover is named: the machines' name, its queue, and the queue's own name. No value of it is made.
+/// The name of a mailbox's handover: the machines' name, its queue, and the queue's own name. No value of it is made.
 pub struct ContentsName<N, M: Named> {
     pub name: N,
     pub posted: Option<N>,
@@ -18,7 +18,7 @@ pub struct Reader<M: Named> {
     pub ghost ready: { (pass.id ≡ 0) × (pass.me.hand ≡ None) × (pass.me.spare ≡ None) },
 }
 
-/// What lies at a mailbox's handover: the machine, and the pass that takes its messages.
+/// The value at a mailbox's handover: the machine, and the pass that takes its messages.
 #[derive(Drop)]
 pub struct Contents<F: Fsm> {
     pub machine: F,

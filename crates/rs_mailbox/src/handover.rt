@@ -23,7 +23,7 @@ pub struct Handover<T: HasCount> {
     ghost sized: { (table.shared.table_id.words ≡ 2) × (table.shared.table_id.slots ≡ 1) },
 }
 
-/// What came of a release.
+/// The result of a release.
 #[derive(Drop)]
 pub enum Back<T> {
     /// The value is home, or another hand has it by now.
@@ -34,14 +34,14 @@ pub enum Back<T> {
     Dropped(T),
 }
 
-/// What a close found.
+/// The result of a close.
 #[derive(Drop)]
 pub enum Shut<T> {
     /// The value, which was home.
     Value(T),
     /// Another hand has the value, and gets it for good as it gives it back.
     Elsewhere,
-    /// It was closed before.
+    /// The handover was closed before.
     Already,
 }
 
@@ -149,8 +149,8 @@ impl<T: HasCount + Drop> Handover<T> {
         found == IDLE
     }
 
-    /// The value, where the handover is Notified. Err exactly where it found this word, not Notified. Where this hand
-    /// has closed the handover, the answer is Err(2).
+    /// Returns the value, where the handover is Notified. Err exactly where it found this word, not Notified. Where
+    /// this hand has closed the handover, the answer is Err(2).
     pub fn take(&self, hand: &mut Hand<T>) -> Result<Held<T>, u64>
         requires hand { IsHandOf T.name self.now hand.old }
         requires calm { (seen hand.old).stance.phase ≡ Calm }
@@ -168,8 +168,8 @@ impl<T: HasCount + Drop> Handover<T> {
         Ok(Held { stored })
     }
 
-    /// The state word. It also tells that the rule held of the two words, the value at home and the views of all hands
-    /// when the word was loaded.
+    /// Returns the state word. It also tells that the rule held of the two words, the value at home and the views of
+    /// all hands when the word was loaded.
     pub fn look(&self, hand: &mut Hand<T>) -> u64
         requires hand { IsHandOf T.name self.now hand.old }
         requires calm { (seen hand.old).stance.phase ≡ Calm }

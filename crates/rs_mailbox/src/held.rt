@@ -12,14 +12,14 @@ pub struct Held<T> {
 }
 
 impl<T> Held<T> {
-    /// How many messages were handled.
+    /// Returns how many messages were handled.
     pub fn handled(&self) -> u64
         ensures { result ≡ self.now.stored.handled }
     {
         self.stored.handled
     }
 
-    /// One more was handled.
+    /// Counts one more as handled.
     pub fn raise(&mut self)
         requires { self.old.stored.handled < 2 ^ 62 }
         ensures value { self.new.stored.value ≡ self.old.stored.value }

@@ -31,7 +31,7 @@ pub struct Mailbox<F: Fsm> {
 
 const DROPPED: u64 = 2;
 
-/// How many messages a station may announce.
+/// The greatest number of messages that a station may announce.
 const MOST: u64 = 1 << 50;
 
 impl<F: Fsm> Drop for Mailbox<F> {
@@ -134,7 +134,7 @@ impl<F: Fsm> Mailbox<F> {
     ghost use Rattle.rs_mailbox.specs.Mail.{Sends, Takes, MatchTaken, Gives, OnAgain, LeavesCalm, Reschedules, Shuts, OnMachine};
     ghost use Rattle.rs_mailbox.specs.Stations.{mailbox_name, view, trail, machine_of, handled_of, reader_of, IsCalm, IsStationOf, IsTurnOf};
 
-    /// The address that its tickets have.
+    /// Returns the address that its tickets have.
     pub fn address(&self) -> u32
         ensures { result ≡ self.now.address }
     {
@@ -179,8 +179,8 @@ impl<F: Fsm> Mailbox<F> {
         Ok(None)
     }
 
-    /// The machine, where the mailbox is notified. Not exactly where it found this word, not Notified: always 2 where
-    /// this station has closed the mailbox. The ticket is spent.
+    /// Returns the machine, where the mailbox is notified. Not exactly where it found this word, not Notified: always
+    /// 2 where this station has closed the mailbox. The ticket is spent.
     pub fn take(&self, station: &mut Station<F>, ticket: Ticket) -> Taken<F>
         requires station { IsStationOf F.name self.now station.old }
         requires calm { IsCalm station.old }

@@ -8,7 +8,7 @@ use rs_rows::NoMemory;
 use std::alloc::Global;
 use std::marker::{Brand, PhantomData};
 
-/// Which name it is. Each call that makes a queue picks it.
+/// The name of a queue. Each call that makes a queue picks it.
 pub trait Naming<N> {
     ghost picked: { Option N };
 }

@@ -2,7 +2,7 @@ use crate::turn::Turn;
 use rs_mailcore::Fsm;
 use thiserror::Error;
 
-/// Why a message was not sent. Nothing was pushed, and the message is handed back.
+/// The error of a message that wasn't sent. Nothing was pushed, and the message is handed back.
 #[derive(Debug, Drop, Error)]
 pub enum SendError<M> {
     /// The mailbox is closed.
@@ -16,7 +16,7 @@ pub enum SendError<M> {
     Spent(M),
 }
 
-/// What came of a ticket.
+/// The result of a take by a ticket.
 #[derive(Drop)]
 pub enum Taken<F: Fsm> {
     /// The machine.
@@ -25,7 +25,7 @@ pub enum Taken<F: Fsm> {
     Not(u64),
 }
 
-/// What came of a release.
+/// The result of a release.
 #[derive(Drop)]
 pub enum Released<F: Fsm> {
     /// The machine is home, or another station has it by now.
@@ -42,13 +42,13 @@ pub struct Dropped<F> {
     pub machine: F,
 }
 
-/// What a close found.
+/// The result of a close.
 #[derive(Debug, Drop)]
 pub enum Closed<F> {
     /// The machine, which was home.
     Machine(F),
     /// Another station has the machine, and gets it for good as it gives it back.
     Elsewhere,
-    /// It was closed before.
+    /// The mailbox was closed before.
     Already,
 }

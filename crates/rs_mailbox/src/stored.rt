@@ -2,7 +2,7 @@ ghost use Rattle.std.specs.Prelude.{ℕ};
 
 use rs_mailcore::Named;
 
-/// What lies at a handover. Its count is the number of messages that were taken for it.
+/// The value at a handover. Its count is the number of messages that were taken for it.
 pub trait HasCount: Named {
     ghost count: { Self → ℕ };
 }

@@ -13,6 +13,7 @@ pub struct Tally {
     pub total: u64,
 }
 
+/// A message with a number.
 #[derive(Debug, Drop)]
 pub struct Note {
     pub number: u64,

@@ -7,7 +7,7 @@ pub struct Ticket {
 }
 
 impl Ticket {
-    /// The mailbox's address.
+    /// Returns the mailbox's address.
     pub fn address(&self) -> u32
         ensures { result ≡ self.now.address }
     {

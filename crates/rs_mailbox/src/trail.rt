@@ -7,14 +7,14 @@ use std::alloc::Global;
 use std::collections::LinkedList;
 use std::marker::PhantomData;
 
-/// What a pass of a message queue knows, for contracts alone: no value of it is made.
+/// The knowledge of a pass of a message queue, for contracts alone: no value of it is made.
 pub struct Trail<N, M> {
     /// The queue's name, which it has before the first push.
     pub name: Option<N>,
     /// The pass's number, and how many passes there are, where it is the reading one, number 0.
     pub number: u64,
     pub made: u64,
-    /// What it pushed, and what it popped, in order.
+    /// The messages that it pushed, and those that it popped, in order.
     pub sent: LinkedList<M>,
     pub got: LinkedList<M>,
 }

@@ -15,7 +15,7 @@ pub struct Turn<F: Fsm> {
 impl<F: Fsm> Turn<F> {
     ghost use Rattle.rs_mailbox.specs.LentMachine.{LendsMachine};
 
-    /// How many messages of the mailbox were taken.
+    /// Returns how many messages of the mailbox were taken.
     pub fn handled(&self) -> u64
         ensures { result ≡ self.now.held.stored.handled }
     {

@@ -24,7 +24,7 @@ pub struct Deed {
     pub handled: u64,
 }
 
-/// What one hand knows, for contracts alone: no value of it is made.
+/// The view of one hand, for contracts alone: no value of it is made.
 pub struct View<N> {
     /// The handover's name.
     pub name: N,
@@ -34,7 +34,7 @@ pub struct View<N> {
     /// The first hand, while the handover is being made.
     pub unborn: bool,
     pub empty: bool,
-    /// It has closed the handover.
+    /// The hand has closed the handover.
     pub shut: bool,
     pub stance: Stance,
     /// All its steps, in order.

@@ -31,9 +31,6 @@ at_index [] i d less = absurd (omega arith)
 at_index (x ∷ xs) zero d less = refl
 at_index (x ∷ xs) (suc i) d less = at_index xs i d (omega arith)
 
-pub at_is : {A : Type 0} (l : List A) (i : ℕ) (d a : A) → get_elem? l i ≡ some a → slice_index_or l i d ≡ a
-at_is l i d a e = some-injective (slice_index_or l i d) a (sym (at_index l i d (at_below l i a e)) ∙ e)
-
 pub raised_set : (l : List Thread) (s : ℕ) (x : Thread) → get_elem? l s ≡ some x → slice_set l s (record x { taken = x.taken + 1 }) ≡ raise_taken l s
 raised_set [] s x e = refl
 raised_set (y ∷ ys) zero x e = ap (λ (z : Thread). record z { taken = z.taken + 1 } ∷ ys) (sym (some-injective y x e))

@@ -1,5 +1,5 @@
 -- A push and a pop keep the order of each sender, and a mailbox that is open and has messages is looked after.
-use Rattle.std.proofs.Common.{◌≡◌, ◌≢◌, ℕ, zero, suc, ◌+◌, ◌<◌, Bool, true, false, eqb, All, List, [], ◌∷◌, ◌++◌, map, length, length-set, sym, refl, ap, ◌∙◌, subst, inr, ⊎_elim, append-nil, eq-eqb, ne_eqb, arith}
+use Rattle.std.proofs.Common.{◌≡◌, ◌≢◌, ℕ, zero, suc, ◌+◌, ◌<◌, Bool, true, false, eqb, All, List, [], ◌∷◌, ◌++◌, map, length, length-set, sym, refl, ap, ◌∙◌, subst, ⊎_elim, append-nil, eq-eqb, ne_eqb, arith}
 use Rattle.std.proofs.lemmas.List.Elements.{All-push}
 use mathlib.Core.Logic.{dite}
 use mathlib.Core.Option.{some, some-injective, some-ne-none}
@@ -11,9 +11,9 @@ use Rattle.rs_mailcore.specs.declared.letter.Place.TheVariants.{Home, With, Give
 use Rattle.rs_mailcore.specs.declared.letter.Letter.{Letter}
 use Rattle.rs_mailcore.specs.declared.thread.Thread.{Thread}
 use Rattle.rs_mailcore.specs.declared.step.Step.TheVariants.{Push}
-use Rattle.rs_mailcore.specs.Words.{IsWatching, announcements}
+use Rattle.rs_mailcore.specs.Words.{announcements}
 use Rattle.rs_mailcore.specs.Moment.{Moment, pick, raise_taken, after, popped}
-use Rattle.rs_mailcore.specs.Lawful.{stance_of, home_count, pushes, IsLawful, numbers, counting, InSenderOrder}
+use Rattle.rs_mailcore.specs.Lawful.{stance_of, home_count, pushes, numbers, counting, InSenderOrder}
 use Rattle.rs_mailcore.proofs.Lists.{at_set}
 use Rattle.rs_mailcore.proofs.Steps.{raised_at, raised_length}
 
@@ -87,9 +87,3 @@ at_thread (x ∷ xs) (suc i) s e f = at_thread xs i s e f
 all_told : (l : List Thread) → ((i : ℕ) (x : Thread) → get_elem? l i ≡ some x → x.pushed ≡ x.stance.announced) → pushes l ≡ announcements (map stance_of l)
 all_told [] h = refl
 all_told (x ∷ xs) h = let a = h 0 x refl in let r = all_told xs (λ i y e. h (suc i) y e) in omega arith
-
--- Where an idle mailbox has messages, not every thread is at rest with all its messages announced
-pub looked_after : {M : Type 0} (m : Moment M) → IsLawful m → m.word ≡ 1 → 0 < length m.queue
-    → ((i : ℕ) (x : Thread) → get_elem? m.threads i ≡ some x → (¬ IsWatching x.stance.phase) × (x.pushed ≡ x.stance.announced)) → ⊥
-looked_after m l word some_left rest = let h = l.tidy.rests_home (inr word) in let told = all_told m.threads (λ i x e. (rest i x e).1) in let sum = l.tidy.counted in let all = l.adds_up in let n = home_is m.place m.handled h.0 h.1 in
-    let o = l.tidy.watched word h.0 h.1 (omega (arith, told, sum, all, n)) in at_thread m.threads o.0 o.1 o.2 (λ x e same. (rest o.0 x e).0 (subst (λ (s : Stance). IsWatching s.phase) same o.3))

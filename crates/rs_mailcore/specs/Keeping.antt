@@ -17,6 +17,7 @@ abbrev pub newcomer : Thread
 newcomer = record { stance = stance Calm 0 0; pushed = 0; taken = 0 }
 
 module _ {M : Type 0} where
+  -- what the ledger says of this moment
   abbrev pub moment : Ledger M → Moment M
   moment c = record { word = c.word; announced = c.announced; place = c.place; handled = c.handled; queue = c.queue.items; threads = c.threads.items }
 
@@ -36,13 +37,16 @@ module _ {M : Type 0} where
   abbrev pub Steps : Moment M → ℕ → Step M → Moment M → Type 0
   Steps m i s n = ((x : Thread) × (get_elem? m.threads i ≡ some x) × (n ≡ after m i x s)) × IsSound n × (m.word ≡ 2 → n.word ≡ 2)
 
+  -- the moment with another state of the thread at this place
   abbrev pub with_thread : Moment M → ℕ → Thread → Moment M
   with_thread m i x = record m { threads = slice_set m.threads i x }
 
-  -- in an open mailbox with messages the word is Notified or Held, or some thread is about to look, or is between its push and its announcement
+  -- the mailbox is closed or has no messages, or the word is Notified or Held, or some thread is about to look, or is
+  -- between its push and its announcement
   abbrev pub IsAwake : Moment M → Type 0
   IsAwake m = m.word ≢ 2 → 0 < length m.queue → (m.word ≡ 0) ⊎ ((m.word ≡ 3) ⊎ ((i : ℕ) × (x : Thread) × (get_elem? m.threads i ≡ some x) × (IsWatching x.stance.phase ⊎ (x.pushed ≡ x.stance.announced + 1))))
 
+-- the step is the push of a message
 abbrev pub IsPush : {M : Type 0} → Step M → Type 0
 IsPush (Push message) = Unit {0}
 IsPush Announce = ⊥

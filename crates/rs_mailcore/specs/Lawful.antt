@@ -12,14 +12,17 @@ use Rattle.rs_mailcore.specs.Words.{IsHolding}
 use Rattle.rs_mailcore.specs.Tidy.{IsTidy}
 use Rattle.rs_mailcore.specs.Moment.{Moment, pick}
 
+-- the stance of a thread
 abbrev pub stance_of : Thread → Stance
 stance_of x = x.stance
 
+-- how many messages the machine has handled, if it is at home
 abbrev pub home_count : Place → ℕ → opt.Option ℕ
 home_count Home n = opt.some n
 home_count (With i) n = opt.none
 home_count Given n = opt.none
 
+-- how many messages all threads pushed
 abbrev pub pushes : List Thread → ℕ
 pushes [] = 0
 pushes (x ∷ xs) = x.pushed + pushes xs
@@ -45,7 +48,7 @@ module _ {M : Type 0} where
   numbers s [] = []
   numbers s (l ∷ ls) = pick (l.sender == s) (l.number ∷ numbers s ls) (numbers s ls)
 
-  -- of each thread the messages in the queue are those past the ones taken, up to the last pushed, in order
+  -- each thread's messages in the queue are those past the ones taken, up to the last pushed, in order
   abbrev pub InSenderOrder : Moment M → Type 0
   InSenderOrder m = ((s : ℕ) (x : Thread) → get_elem? m.threads s ≡ opt.some x → (k : ℕ) × (numbers s m.queue ≡ counting (x.taken + 1) k) × (x.taken + k ≡ x.pushed))
       × All (λ (l : Letter M). l.sender < length m.threads) m.queue

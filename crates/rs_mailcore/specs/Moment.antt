@@ -10,6 +10,7 @@ use Rattle.rs_mailcore.specs.declared.step.Step.{Step}
 use Rattle.rs_mailcore.specs.declared.step.Step.TheVariants.{Announce, Notify, Take, Release, Recheck, Retake, Close, Look, Reschedule, Push, Pop}
 use Rattle.rs_mailcore.specs.Words.{stance}
 
+-- the mailbox at one moment: its word, where the machine is, the queue, and the threads that use it
 pub record Moment (M : Type 0) : Type 0 where
   pub word : ℕ
   pub announced : ℕ
@@ -56,8 +57,9 @@ module _ {M : Type 0} where
   abbrev pub lets_go : Moment M → ℕ → Thread → ℕ → Phase → Moment M
   lets_go m i x word phase = pick (m.word == 3) (goes m i x word Home m.announced phase x.stance.announced m.handled) (hands_out m i x)
 
-  -- the message at the front is taken, where there is one
+  -- the message at the front is taken, if there is one
 
+  -- the moment after a pop: the front of the queue is handled, if there is one
   abbrev pub popped : Moment M → List (Letter M) → Moment M
   popped m [] = m
   popped m (l ∷ ls) = record m { handled = m.handled + 1; queue = ls; threads = raise_taken m.threads l.sender }

@@ -6,6 +6,7 @@ use Rattle.rs_mailcore.specs.declared.letter.Place.TheVariants.{Home, With, Give
 use Rattle.rs_mailcore.specs.Moment.{Moment}
 use Rattle.rs_mailcore.specs.Keeping.{IsSound}
 
+-- the machine is at home
 abbrev pub is_home : Place → Bool
 is_home Home = true
 is_home (With i) = false

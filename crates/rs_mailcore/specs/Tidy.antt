@@ -9,6 +9,7 @@ use Rattle.rs_mailcore.specs.Words.{IsResting, IsHolding, IsReleasing, IsWatchin
 abbrev pub Holds : List Stance → ℕ → Type 0
 Holds xs i = (x : Stance) × (get_elem? xs i ≡ some x) × IsHolding x.phase
 
+-- the word tells where the machine is, and at most one thread holds it
 pub record IsTidy (word announced : ℕ) (home : Option ℕ) (xs : List Stance) : Type 0 where
   pub known : word ≤ 3
   -- the machine is home exactly where the word is Idle or Notified

@@ -22,7 +22,7 @@ pub struct Desk<F: Fsm> {
 }
 
 impl<F: Fsm> Desk<F> {
-    /// An idle mailbox with the machine home, nothing in its queue and calm stations.
+    /// Returns an idle mailbox with the machine home, nothing in its queue and calm stations.
     pub fn new(alloc: Global, machine: F, stations: u32) -> Result<Desk<F>, NoMemory>
         requires { (1 ≤ stations) × (stations ≤ 4096) }
         ensures opening { IfOk result (λ d. moment d.ledger ≡ opening stations) }
@@ -36,15 +36,15 @@ impl<F: Fsm> Desk<F> {
         })
     }
 
-    /// Whether this station is there, and may make this step.
+    /// Returns whether this station is there, and may make this step.
     pub fn may_step(&self, station: u32, step: &Step<F::Message>) -> bool
         ensures { IsTrue result ↔ MayStep (moment self.now.ledger) station step.now }
     {
         self.ledger.may_step(station as usize, step)
     }
 
-    /// The state word: 0 Notified, 1 Idle, 2 Drop, 3 Held. Where the mailbox is open and has messages, it isn't at rest:
-    /// it is Notified or Held, or some station is about to look after the messages.
+    /// Returns the state word: 0 Notified, 1 Idle, 2 Drop, 3 Held. Where the mailbox is open and has messages, it
+    /// isn't at rest: it is Notified or Held, or some station is about to look after the messages.
     pub fn word(&self) -> u64
         requires { IsSeated (moment self.now.ledger) self.now.machine }
         ensures word { result ≡ self.now.ledger.word }
@@ -53,7 +53,7 @@ impl<F: Fsm> Desk<F> {
         self.ledger.word()
     }
 
-    /// One more message is announced.
+    /// Announces one more message.
     #[tactic(auto, using(crate::proofs::Seats::stays_seated))]
     pub fn announce(&mut self, station: u32)
         requires seated { IsSeated (moment self.old.ledger) self.old.machine }
@@ -65,7 +65,7 @@ impl<F: Fsm> Desk<F> {
         self.ledger.announce(station as usize);
     }
 
-    /// True exactly where it found Idle, which is Notified then.
+    /// Returns true exactly where it found Idle, which is Notified then.
     #[tactic(auto, using(crate::proofs::Seats::stays_seated))]
     pub fn notify(&mut self, station: u32) -> bool
         requires seated { IsSeated (moment self.old.ledger) self.old.machine }
@@ -78,7 +78,7 @@ impl<F: Fsm> Desk<F> {
         self.ledger.notify(station as usize)
     }
 
-    /// The machine. Err exactly where it found this word, not Notified, and then nothing is changed.
+    /// Returns the machine. Err exactly where it found this word, not Notified, and then nothing is changed.
     #[tactic(auto, using(crate::proofs::Seats::taken_out, crate::proofs::Seats::not_taken, crate::proofs::Seats::there_at_rest))]
     pub fn take(&mut self, station: u32) -> Result<F, u64>
         requires seated { IsSeated (moment self.old.ledger) self.old.machine }
@@ -109,7 +109,7 @@ impl<F: Fsm> Desk<F> {
         Some(machine)
     }
 
-    /// True exactly where more was announced than the station remembers. Else it is calm.
+    /// Returns true exactly where more was announced than the station remembers. Else it is calm.
     #[tactic(auto, using(crate::proofs::Seats::stays_seated))]
     pub fn recheck(&mut self, station: u32) -> bool
         requires seated { IsSeated (moment self.old.ledger) self.old.machine }
@@ -122,7 +122,7 @@ impl<F: Fsm> Desk<F> {
         self.ledger.recheck(station as usize)
     }
 
-    /// The machine once more. Some exactly where it found Idle.
+    /// Returns the machine once more. Some exactly where it found Idle.
     #[tactic(auto, using(crate::proofs::Seats::retaken_out, crate::proofs::Seats::not_retaken, crate::proofs::Seats::there_at_rest))]
     pub fn retake(&mut self, station: u32) -> Option<F>
         requires seated { IsSeated (moment self.old.ledger) self.old.machine }
@@ -153,7 +153,7 @@ impl<F: Fsm> Desk<F> {
         (found, self.machine.take())
     }
 
-    /// The word that it found. Nothing is changed.
+    /// Returns the word that it found. Nothing is changed.
     pub fn look(&mut self, station: u32) -> u64
         requires seated { IsSeated (moment self.old.ledger) self.old.machine }
         requires enabled { MayStep (moment self.old.ledger) station Look }

@@ -19,10 +19,10 @@ use std::collections::VecDeque;
 pub struct Ledger<M> {
     /// 0 Notified, 1 Idle, 2 Drop, 3 Held.
     pub word: u64,
-    /// How many messages were announced. It never falls.
+    /// The number of messages that were announced. It never falls.
     pub announced: u64,
     pub place: Place,
-    /// How many messages were taken.
+    /// The number of messages that were taken.
     pub handled: u64,
     pub queue: VecDeque<Letter<M>>,
     pub threads: Vec<Thread>,
@@ -46,7 +46,7 @@ fn given_from(place: Place) -> Place
 }
 
 impl<M> Ledger<M> {
-    /// An idle mailbox with the machine home, nothing in its queue and calm threads.
+    /// Returns an idle mailbox with the machine home, nothing in its queue and calm threads.
     pub fn new(alloc: Global, threads: u32) -> Result<Ledger<M>, NoMemory>
         requires { (1 ≤ threads) × (threads ≤ 4096) }
         ensures opening { IfOk result (λ c. moment c ≡ opening threads) }
@@ -72,7 +72,7 @@ impl<M> Ledger<M> {
         })
     }
 
-    /// Whether this thread is there, and may make this step.
+    /// Returns whether this thread is there, and may make this step.
     #[tactic(auto, using(crate::proofs::Kept::may_at))]
     pub fn may_step(&self, thread: usize, step: &Step<M>) -> bool
         ensures { IsTrue result ↔ MayStep (moment self.now) thread step.now }
@@ -83,8 +83,8 @@ impl<M> Ledger<M> {
         self.thread_at(thread).may(step)
     }
 
-    /// The state word. Where the mailbox is open and has messages, it isn't at rest: it is Notified or Held, or some
-    /// thread is about to look after the messages.
+    /// Returns the state word. Where the mailbox is open and has messages, it isn't at rest: it is Notified or Held,
+    /// or some thread is about to look after the messages.
     pub fn word(&self) -> u64
         requires { IsSound (moment self.now) }
         ensures word { result ≡ self.now.word }
@@ -126,7 +126,7 @@ impl<M> Ledger<M> {
         self.threads.as_mut_slice()[thread] = now;
     }
 
-    /// One more message is announced.
+    /// Announces one more message.
     pub fn announce(&mut self, thread: usize)
         requires sound { IsSound (moment self.old) }
         requires enabled { MayStep (moment self.old) thread Announce }
@@ -142,7 +142,7 @@ impl<M> Ledger<M> {
         self.goes(thread, was, self.word, self.place, announced, stance);
     }
 
-    /// True exactly where it found Idle, which is Notified then.
+    /// Returns true exactly where it found Idle, which is Notified then.
     pub fn notify(&mut self, thread: usize) -> bool
         requires sound { IsSound (moment self.old) }
         requires enabled { MayStep (moment self.old) thread Notify }
@@ -224,7 +224,7 @@ impl<M> Ledger<M> {
         self.goes(thread, was, self.word, Place::Given, self.announced, stance);
     }
 
-    /// True exactly where more was announced than the thread remembers. Else it is calm.
+    /// Returns true exactly where more was announced than the thread remembers. Else it is calm.
     pub fn recheck(&mut self, thread: usize) -> bool
         requires sound { IsSound (moment self.old) }
         requires enabled { MayStep (moment self.old) thread Recheck }
@@ -288,7 +288,7 @@ impl<M> Ledger<M> {
         found
     }
 
-    /// The word that it found. Nothing is changed.
+    /// Returns the word that it found. Nothing is changed.
     pub fn look(&mut self, thread: usize) -> u64
         requires sound { IsSound (moment self.old) }
         requires enabled { MayStep (moment self.old) thread Look }

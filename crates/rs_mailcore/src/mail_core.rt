@@ -13,7 +13,7 @@ pub struct Core {
 }
 
 impl Core {
-    /// An idle mailbox with the machine home, nothing in its queue and calm threads.
+    /// Returns an idle mailbox with the machine home, nothing in its queue and calm threads.
     pub fn new(alloc: Global, threads: u32) -> Result<Core, NoMemory>
         requires { (1 ≤ threads) × (threads ≤ 4096) }
         ensures opening { IfOk result (λ c. moment c.ledger ≡ opening threads) }
@@ -24,7 +24,7 @@ impl Core {
         })
     }
 
-    /// Whether this thread is there, and may make this step.
+    /// Returns whether this thread is there, and may make this step.
     pub fn may_step(&self, thread: usize, step: &Step<u64>) -> bool
         ensures { IsTrue result ↔ MayStep (moment self.now.ledger) thread step.now }
     {
@@ -76,8 +76,8 @@ impl Core {
         Ok(())
     }
 
-    /// The state word. Where the mailbox is open and has messages, it isn't at rest: it is Notified or Held, or some
-    /// thread is about to look after the messages.
+    /// Returns the state word. Where the mailbox is open and has messages, it isn't at rest: it is Notified or Held,
+    /// or some thread is about to look after the messages.
     pub fn word(&self) -> u64
         requires { IsSound (moment self.now.ledger) }
         ensures word { result ≡ self.now.ledger.word }

@@ -1,15 +1,15 @@
 use crate::step::Step;
 
-/// What a thread is about to do at a mailbox.
+/// The phase of a thread at a mailbox.
 #[derive(Clone, Copy, PartialEq, Eq, Debug)]
 pub enum Phase {
     /// Nothing, or a push.
     Calm,
-    /// It has announced a message, and tries to notify next.
+    /// The thread has announced a message, and tries to notify next.
     Notifying,
-    /// It has the machine.
+    /// The thread has the machine.
     Holding,
-    /// It has put the machine home, and looks next whether more was announced.
+    /// The thread has put the machine home, and looks next whether more was announced.
     Releasing,
 }
 
@@ -17,24 +17,24 @@ pub enum Phase {
 #[derive(Clone, Copy, PartialEq, Eq, Debug)]
 pub struct Stance {
     pub phase: Phase,
-    /// How many messages it has announced.
+    /// The number of messages that it has announced.
     pub announced: u64,
     /// While it is Holding, the handled count that it found when it took the machine. While it is Releasing, the
     /// handled count that it put home.
     pub remembered: u64,
 }
 
-/// What is known of one thread.
+/// The record of one thread.
 #[derive(Clone, Copy, PartialEq, Eq, Debug)]
 pub struct Thread {
     pub stance: Stance,
-    /// How many messages it has pushed.
+    /// The number of messages that it has pushed.
     pub pushed: u64,
-    /// How many of its messages were taken.
+    /// The number of its messages that were taken.
     pub taken: u64,
 }
 
-/// How many messages a thread may announce.
+/// The greatest number of messages that a thread may announce.
 const MOST: u64 = 1 << 50;
 
 impl Thread {
@@ -48,7 +48,7 @@ impl Thread {
         matches!(self.stance.phase, Phase::Calm) && self.pushed == self.stance.announced
     }
 
-    /// Whether it may make this step.
+    /// Returns whether it may make this step.
     pub fn may<M>(&self, step: &Step<M>) -> bool
         ensures { IsTrue result ↔ Enabled {M = M} self.now step.now }
     {

@@ -8,9 +8,11 @@ use Rattle.std.proofs.lemmas.Option.{slice_get_past, slice_get_within}
 use Rattle.rs_entry.specs.declared.input.Input.{Input}
 use Rattle.rs_store.specs.Stores.{first_some}
 use Rattle.rs_msg.specs.declared.ending.Ending.{Ending}
-use Rattle.rs_meta.specs.Addresses.{count_on, first_of, is_on}
+use Rattle.rs_table.specs.Cuts.{is_on}
+use Rattle.rs_meta.specs.Addresses.{count_on, first_of}
 use Rattle.rs_meta.specs.Held.{AreAllHeld, AreOwn, ending_in, held_in, held_with, is_free, is_free_at, is_free_slot, with_ending}
 use Rattle.rs_meta.specs.Readings.{AreEndings}
+use Rattle.rs_meta.proofs.StorePlaces.{FollowOn}
 use Rattle.rs_meta.proofs.Slots.{Slots, count_first, count_from_full, full_from_count, get_set_other, get_set_same, length_set}
 
 -- ---- all free
@@ -32,13 +34,6 @@ none_held first xs free a = go (leb first a)
     go false = refl
 
 -- ---- one filled
-
-free_within : (xs : Slots) (k : ℕ) → is_free_at xs k ≡ true → k < length xs
-free_within xs k free = go (slice_get xs k) refl free
-  where
-    go : (o : Option (Option Ending)) → slice_get xs k ≡ o → is_free_slot o ≡ true → k < length xs
-    go None there e = absurd cc
-    go (Some x) there e = slice_get_within xs k x there
 
 module _ (xs : Slots) (k : ℕ) (e : Ending) where
   with_other : (j : ℕ) → (j ≡ k → ⊥) → slice_get (with_ending xs k e) j ≡ slice_get xs j
@@ -97,8 +92,8 @@ module _ (xs : Slots) (k : ℕ) (e : Ending) where
 
 -- ---- by address
 
-not_on_below : (input : Input) (place a : ℕ) → leb (first_of input place) a ≡ false → is_on input place a ≡ false
-not_on_below input place a b = ap (λ c. c && ltb a (first_of input place + count_on input place)) b
+not_on_below : (input : Input) (place : ℕ) → FollowOn input place → (a : ℕ) → leb (first_of input place) a ≡ false → is_on input place a ≡ false
+not_on_below input place follow a b = follow a ∙ ap (λ c. c && ltb a (first_of input place + count_on input place)) b
 
 held_other : (b : Bool) (o p : Option Ending) → b ≡ false → o ≡ (if b then p else o)
 held_other true o p e = absurd cc
@@ -108,7 +103,7 @@ and_false : (b c : Bool) → c ≡ false → (b && c) ≡ false
 and_false true c e = e
 and_false false c e = refl
 
-module _ (input : Input) (place : ℕ) (e : Ending) (xs : Slots) where
+module _ (input : Input) (place : ℕ) (follow : FollowOn input place) (e : Ending) (xs : Slots) where
   abbrev first : ℕ
   first = first_of input place
 
@@ -123,7 +118,7 @@ module _ (input : Input) (place : ℕ) (e : Ending) (xs : Slots) where
       go false b = refl
       go true b =
           let same : a ≡ e.address = eqb-true a e.address b in
-          not_on_below input place a (lt-leb (first_of input place) a (omega (arith, same, lt)))
+          not_on_below input place follow a (lt-leb (first_of input place) a (omega (arith, same, lt)))
 
   module _ (k : ℕ) (count : length xs ≡ count_on input place) (at : e.address ≡ first_of input place + k) (a : ℕ) where
     abbrev held : Option Ending
@@ -134,7 +129,7 @@ module _ (input : Input) (place : ℕ) (e : Ending) (xs : Slots) where
 
     by_place : leb first a ≡ true → a ≡ first + k → (k < length xs) ⊎ (length xs ≤ k) → (a == e.address) ≡ true → held_in first (with_ending xs k e) a ≡ after ((a == e.address) && is_on input place a)
     by_place start p (inl lt) q =
-        let own : is_on input place a ≡ true = and_from (leb first a) (ltb a (first + count_on input place)) start (lt-ltb a (first + count_on input place) (omega (arith, p, lt, count))) in
+        let own : is_on input place a ≡ true = follow a ∙ and_from (leb first a) (ltb a (first + count_on input place)) start (lt-ltb a (first + count_on input place) (omega (arith, p, lt, count))) in
         let j : a - first ≡ k = omega (arith, p) in
         in_slots a start (with_ending xs k e)
         ∙ (ap (λ n. ending_in (slice_get (with_ending xs k e) n)) j
@@ -143,7 +138,7 @@ module _ (input : Input) (place : ℕ) (e : Ending) (xs : Slots) where
         ∙ (ap (λ o. first_some o (Some e)) (sym (in_slots a start xs))
         ∙ ap after (sym (and_from (a == e.address) (is_on input place a) q own))))))
     by_place start p (inr le) q =
-        let other : is_on input place a ≡ false = and_false (leb first a) (ltb a (first + count_on input place)) (le-ltb a (first + count_on input place) (omega (arith, p, le, count))) in
+        let other : is_on input place a ≡ false = follow a ∙ and_false (leb first a) (ltb a (first + count_on input place)) (le-ltb a (first + count_on input place) (omega (arith, p, le, count))) in
         ap (λ ys. held_in first ys a) (with_past xs k e le) ∙ ap after (sym (and_false (a == e.address) (is_on input place a) other))
 
     by_address : leb first a ≡ true → (b : Bool) → (a == e.address) ≡ b → held_in first (with_ending xs k e) a ≡ after ((a == e.address) && is_on input place a)
@@ -157,13 +152,13 @@ module _ (input : Input) (place : ℕ) (e : Ending) (xs : Slots) where
     by_start true start = by_address start (a == e.address) refl
     by_start false start =
         let none : (ys : Slots) → held_in first ys a ≡ None = λ ys. ap (λ b. if b then ending_in (slice_get ys (a - first)) else None) start in
-        none (with_ending xs k e) ∙ (sym (none xs) ∙ ap after (sym (and_false (a == e.address) (is_on input place a) (not_on_below input place a start))))
+        none (with_ending xs k e) ∙ (sym (none xs) ∙ ap after (sym (and_false (a == e.address) (is_on input place a) (not_on_below input place follow a start))))
 
     -- one of an address from the store's first on
     pub held_from : held_in first (with_ending xs k e) a ≡ held_with input place e (held_in first xs) a
     held_from = by_start (leb first a) refl
 
-module _ (input : Input) (place : ℕ) (xs : Slots) where
+module _ (input : Input) (place : ℕ) (follow : FollowOn input place) (xs : Slots) where
   abbrev begin : ℕ
   begin = first_of input place
 
@@ -176,7 +171,7 @@ module _ (input : Input) (place : ℕ) (xs : Slots) where
 
       from_full : ((k : ℕ) → k < length xs → IsSome (ending_in (slice_get xs k))) → (a : ℕ) → is_on input place a ≡ true → IsSome (held_in begin xs a)
       from_full full a on =
-          let both = and_parts (leb begin a) (ltb a (begin + count_on input place)) on in
+          let both = and_parts (leb begin a) (ltb a (begin + count_on input place)) (sym (follow a) ∙ on) in
           let from = leb-true begin a both.0 in
           let to = ltb-true a (begin + count_on input place) both.1 in
           subst (λ o. IsSome o) (sym (in_slot a both.0)) (full (a - begin) (omega (arith, from, to, count)))
@@ -184,7 +179,7 @@ module _ (input : Input) (place : ℕ) (xs : Slots) where
       to_full : ((a : ℕ) → is_on input place a ≡ true → IsSome (held_in begin xs a)) → (k : ℕ) → k < length xs → IsSome (ending_in (slice_get xs k))
       to_full all k lt =
           let start : leb begin (begin + k) ≡ true = le-leb begin (begin + k) (omega arith) in
-          let on = and_from (leb begin (begin + k)) (ltb (begin + k) (begin + count_on input place)) start (lt-ltb (begin + k) (begin + count_on input place) (omega (arith, lt, count))) in
+          let on = follow (begin + k) ∙ and_from (leb begin (begin + k)) (ltb (begin + k) (begin + count_on input place)) start (lt-ltb (begin + k) (begin + count_on input place) (omega (arith, lt, count))) in
           let j : begin + k - begin ≡ k = omega arith in
           subst (λ n. IsSome (ending_in (slice_get xs n))) j (subst (λ o. IsSome o) (in_slot (begin + k) start) (all (begin + k) on))
 
@@ -202,10 +197,10 @@ held_place (None ∷ xs) none k e there = absurd (let c = count_first None xs in
 held_place (Some x ∷ xs) none zero e there = ap Some there
 held_place (Some x ∷ xs) none (suc k) e there = held_place xs (sym (count_first (Some x) xs) ∙ none) k e there
 
-pub all_endings : (input : Input) (place low : ℕ) (xs : Slots) → low ≡ first_of input place → length xs ≡ count_on input place → AreOwn input low xs
+pub all_endings : (input : Input) (place : ℕ) → FollowOn input place → (low : ℕ) (xs : Slots) → low ≡ first_of input place → length xs ≡ count_on input place → AreOwn input low xs
     → AreAllHeld input place (held_in low xs) → AreEndings input place (filter_map (λ slot. slot) xs)
-all_endings input place low xs begins count own all =
-    let none : count_by is_free xs ≡ 0 = (all_held input place xs count).1 (subst (λ n. AreAllHeld input place (held_in n xs)) begins all) in
+all_endings input place follow low xs begins count own all =
+    let none : count_by is_free xs ≡ 0 = (all_held input place follow xs count).1 (subst (λ n. AreAllHeld input place (held_in n xs)) begins all) in
     record {
       count = held_length xs none ∙ count;
       plans = λ k e there. (own k e (held_place xs none k e there)).0;

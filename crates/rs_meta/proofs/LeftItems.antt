@@ -1,10 +1,9 @@
 -- Each key's items at the end of a store's order are left by one region alone.
-use Rattle.std.proofs.Common.{◌≡◌, ◌∙◌, sym, refl, ap, ℕ, zero, suc, ◌<◌, Bool, true, false, not, ◌||◌, List, [], ◌∷◌, ◌++◌, take, Option, Some, None, arith, inl, inr, ◌⊎◌}
-use Rattle.std.specs.Prelude.{if◌then◌else◌, slice_get}
+use Rattle.std.proofs.Common.{◌≡◌, ◌∙◌, sym, refl, ap, ℕ, Bool, true, false, not, ◌||◌, List, [], ◌∷◌, Option, Some, None, inl, inr}
+use Rattle.std.specs.Prelude.{if◌then◌else◌}
 use Rattle.std.specs.List.{cons_option, flat_map, list_any}
-use Rattle.std.proofs.lemmas.Bool.{both_ways, cases_eq}
+use Rattle.std.proofs.lemmas.Bool.{both_ways}
 use Rattle.rs_key.specs.Ranges.{Bounds, holds}
-use Rattle.rs_entry.specs.declared.input.Input.{Input}
 use Rattle.rs_entry.specs.declared.input.Store.{Store}
 use Rattle.rs_entry.specs.declared.outcome.Mode.{Mode}
 use Rattle.rs_entry.specs.declared.outcome.Mode.TheVariants as mode
@@ -18,12 +17,10 @@ use Rattle.rs_part.specs.Whole.{Invariant}
 use Rattle.rs_part.proofs.Covers.{held_once}
 use Rattle.rs_part.proofs.Regions.{same_region}
 use Rattle.rs_msg.specs.Held.{leaves_map}
-use Rattle.rs_msg.specs.declared.ending.Ending.{Ending}
 use Rattle.rs_history.specs.Outcomes.{is_removed, is_shown, removed_in, removed_range, shown}
-use Rattle.rs_history.proofs.Ascending.{Ascend, behind_first, ids_ascend, none_made, one_made}
+use Rattle.rs_history.proofs.Ascending.{ids_ascend, none_made, one_made}
 use Rattle.rs_history.proofs.ShownHistories.{hidden_history, shown_history}
-use Rattle.rs_meta.specs.Readings.{items_left, items_of_all}
-use Rattle.rs_meta.proofs.Alongside.{Along, Beside, Says, shown_of}
+use Rattle.rs_meta.proofs.Alongside.{shown_of}
 use Rattle.rs_meta.proofs.EndingLaws.{leaves_unmerged}
 
 removed_unmerged : (m : Mode) → is_removed m ≡ true → is_unmerged m ≡ true

@@ -1,6 +1,6 @@
 -- A store's addresses, by the ids of the stores of all addresses.
 use Rattle.std.proofs.Common.{◌≡◌, ◌∙◌, sym, refl, ap, subst, ℕ, zero, suc, ◌+◌, ◌<◌, ◌==◌, Bool, true, false, cond, List, [], ◌∷◌, ◌++◌, map, length, take, Option, Some, None, arith}
-use Rattle.std.specs.Prelude.{get_or, if◌then◌else◌, ltb, slice_get}
+use Rattle.std.specs.Prelude.{◌&&◌, get_or, if◌then◌else◌, leb, ltb, slice_get}
 use Rattle.std.specs.Option.{option_map}
 use Rattle.std.specs.List.{AllByRecursion, cons_option, count_by, filter, flat_map}
 use Rattle.std.proofs.lemmas.Bool.{eq-eqb, le-ltb, lt-ltb, ne_eqb}
@@ -16,6 +16,8 @@ use Rattle.rs_store.specs.declared.regions.Made.{Made}
 use Rattle.rs_store.specs.Stores.{Broke, ByRegion, Stepped, Went, ids_of, last}
 use Rattle.rs_check.specs.declared.rows.Row.{Row}
 use Rattle.rs_check.specs.Plans.{address_in, address_of, row_of, rows_at, rows_in, rows_of, store_rows}
+use Rattle.rs_table.specs.Cuts.{is_on}
+use Rattle.rs_table.proofs.Spans.{on_span}
 use Rattle.rs_meta.specs.Addresses.{count_on, first_of, rows_on}
 
 -- ---- tests that all of a list pass or fail
@@ -110,6 +112,24 @@ module _ (s : Store) where
       ∙ (ap (λ ys. ys ++ filter is_its (flat_map store_rows xs)) (keeps_none is_its (store_rows x)
       (all_map (λ y. y.store ≡ x.id) (λ y. is_its y ≡ false) (λ y q. ne_eqb y.store s.id (λ p. omega arith)) (store_rows x) (stored x)))
       ∙ its_own x.id xs h.2 place e)
+
+-- an address is the store's where it is one of those from its first on
+abbrev pub FollowOn : Input → ℕ → Type 0
+FollowOn input place = (a : ℕ) → is_on input place a ≡ (leb (first_of input place) a && ltb a (first_of input place + count_on input place))
+
+pub follow_on : (input : Input) → WellFormed input → (place : ℕ) → place < length input.stores → FollowOn input place
+follow_on input well place within a = go (slice_get input.stores place) refl
+  where
+    no_store : (xs : List Store) (k : ℕ) → k < length xs → slice_get xs k ≡ None → ⊥
+    no_store [] k lt e = omega (arith, lt)
+    no_store (x ∷ xs) zero lt e = cc e
+    no_store (x ∷ xs) (suc k) lt e = no_store xs k (omega (arith, lt)) e
+
+    go : (o : Option Store) → slice_get input.stores place ≡ o → is_on input place a ≡ (leb (first_of input place) a && ltb a (first_of input place + count_on input place))
+    go (Some s) there =
+        on_span input well place s there a
+        ∙ ap (λ o. leb (first_of input place) a && ltb a (first_of input place + length (rows_on o))) (sym there)
+    go None there = absurd (no_store input.stores place within there)
 
 -- the store at a place, by its id
 record AtPlace (input : Input) (place id : ℕ) : Type 0 where

@@ -3,13 +3,14 @@ use Rattle.std.specs.Prelude.{◌≡◌, ℕ, ◌+◌, ◌-◌, ◌==◌, ◌&&�
 use Rattle.rs_entry.specs.declared.input.Input.{Input}
 use Rattle.rs_store.specs.Stores.{first_some}
 use Rattle.rs_msg.specs.declared.ending.Ending.{Ending}
-use Rattle.rs_meta.specs.Addresses.{is_on}
+use Rattle.rs_table.specs.Cuts.{is_on}
 
 -- the slot has no ending yet
 abbrev pub is_free : Option Ending → Bool
 is_free None = true
 is_free (Some e) = false
 
+-- the ending in the slot, if there are both
 abbrev pub ending_in : Option (Option Ending) → Option Ending
 ending_in None = None
 ending_in (Some slot) = slot
@@ -27,6 +28,7 @@ abbrev pub is_free_slot : Option (Option Ending) → Bool
 is_free_slot None = false
 is_free_slot (Some slot) = is_free slot
 
+-- the slot at the place exists and is free
 abbrev pub is_free_at : List (Option Ending) → ℕ → Bool
 is_free_at slots k = is_free_slot (slice_get slots k)
 

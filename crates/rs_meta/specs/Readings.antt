@@ -4,7 +4,6 @@ use Rattle.std.specs.List.{flat_map}
 use Rattle.rs_entry.specs.declared.input.Input.{Input}
 use Rattle.rs_entry.specs.declared.outcome.RegionLine.{RegionLine}
 use Rattle.rs_entry.specs.declared.outcome.StoreOutcome.{StoreOutcome}
-use Rattle.rs_region.specs.declared.state.RegionState.{RegionState}
 use Rattle.rs_part.specs.Items.{Items}
 use Rattle.rs_msg.specs.Maps.{Writes, items_at}
 use Rattle.rs_check.specs.Plans.{ends_of, own_of, stop_of}
@@ -40,6 +39,7 @@ line_of input e = record {
 abbrev pub writes_left : Ending → Writes
 writes_left e = unwrap_or e.map []
 
+-- the writes that an ending leaves, as histories of the keys
 abbrev pub items_left : Ending → Items
 items_left e = items_at (writes_left e)
 

@@ -1,7 +1,8 @@
 ghost use Rattle.std.specs.Prelude.{◌≡◌, ◌<◌, ◌↔◌, ℕ, None, length, slice_get, IfOk, IsTrue};
 ghost use Rattle.std.specs.List.{count_by, filter_map};
+ghost use Rattle.std.specs.Option.{is_some};
 ghost use Rattle.rs_meta.specs.Addresses.{count_on, first_of};
-ghost use Rattle.rs_meta.specs.Held.{is_free, is_free_at, with_ending, held_with, AreAllHeld, AreOwn};
+ghost use Rattle.rs_meta.specs.Held.{ending_in, is_free, is_free_at, with_ending, held_with, AreAllHeld, AreOwn};
 
 use crate::store_addresses::{count_on, first_of};
 use rs_check::Plan;
@@ -17,7 +18,7 @@ pub struct Endings<'p> {
     /// The store's first address, whose ending stands in the first slot.
     first: u32,
     slots: Vec<Option<Ending<'p>>>,
-    /// How many endings have not come yet.
+    /// The number of endings that haven't come yet.
     missing: usize,
     ghost within: { place < length plan.now.stores },
     ghost begins: { first ≡ first_of plan.now place },
@@ -29,7 +30,7 @@ pub struct Endings<'p> {
 impl<'p> Endings<'p> {
     ghost use Rattle.rs_meta.specs.Machines.{held_by};
 
-    /// No ending yet.
+    /// Returns the endings of the store at the place, of which none has come.
     pub fn new(alloc: Global, plan: &'p Plan, place: u32) -> Result<Endings<'p>, NoMemory>
         requires { place < length plan.now.stores }
         ensures plan { IfOk result (λ endings. endings.plan ≡ plan.entry) }
@@ -55,6 +56,7 @@ impl<'p> Endings<'p> {
         ensures place { self.new.place ≡ self.old.place }
         ensures held { (a : ℕ) → held_by self.new a ≡ held_with self.old.plan.now self.old.place ending.entry (held_by self.old) a }
     {
+        let _input = self.plan.input();
         let address = ending.address();
         if address < self.first {
             return;
@@ -63,14 +65,25 @@ impl<'p> Endings<'p> {
         keep(&mut self.slots, &mut self.missing, slot, ending);
     }
 
-    /// Whether each address of the store has its ending.
+    /// Returns whether each address of the store has its ending.
     pub fn complete(&self) -> bool
         ensures { IsTrue result ↔ AreAllHeld self.now.plan.now self.now.place (held_by self.now) }
     {
+        let _input = self.plan.input();
         self.missing == 0
     }
 
-    /// The endings that have come, by address.
+    /// Whether the address's ending has come.
+    pub fn has(&self, address: u32) -> bool
+        ensures { result ≡ is_some (held_by self.now address) }
+    {
+        if address < self.first {
+            return false;
+        }
+        is_held(&self.slots, (address - self.first) as usize)
+    }
+
+    /// Returns the endings that have come, by address.
     pub fn into_held(self, alloc: Global) -> Result<Vec<Ending<'p>>, NoMemory>
         ensures { IfOk result (λ held. held.items ≡ filter_map (λ slot. slot) self.entry.slots.items) }
     {
@@ -97,7 +110,7 @@ fn free_slots<'p>(alloc: Global, count: usize) -> Result<Vec<Option<Ending<'p>>>
     Ok(slots)
 }
 
-/// Puts the ending into the slot, where there is such a slot and it is free.
+/// Puts the ending into the slot, if the slot exists and is free.
 fn keep<'p>(
     slots: &mut Vec<Option<Ending<'p>>>,
     missing: &mut usize,
@@ -113,6 +126,12 @@ fn keep<'p>(
     }
     *missing -= 1;
     slots[slot] = Some(ending);
+}
+
+fn is_held(slots: &[Option<Ending<'_>>], slot: usize) -> bool
+    ensures { result ≡ is_some (ending_in (slice_get slots.now slot)) }
+{
+    matches!(slots.get(slot), Some(Some(_)))
 }
 
 fn is_free_at(slots: &[Option<Ending<'_>>], slot: usize) -> bool

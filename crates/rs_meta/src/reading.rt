@@ -20,21 +20,21 @@ use rs_region::RegionState;
 use rs_table::StoreTable;
 use std::alloc::Global;
 
-/// What endings say beside their lines: all replies and the writes of their maps.
+/// The replies of all endings, and the writes of their maps.
 #[derive(Drop)]
 struct Reading<'p> {
     replies: Rows<ReplyLine>,
     writes: Writes<'p>,
 }
 
-/// The outcome of the store whose table has all its reshapings.
+/// Returns the outcome of the store whose table has all its reshapings.
 pub fn read_off<'p>(
     alloc: Global,
     plan: &'p Plan,
     table: &StoreTable<'p>,
     endings: Vec<Ending<'p>>,
 ) -> Result<StoreOutcome, NoMemory>
-    requires plan { table.now.growing.plan ≡ plan }
+    requires plan { input_of table.now ≡ plan.now }
     requires place { place_of table.now < length plan.now.stores }
     requires full { IsFull plan.now (place_of table.now) (cut_of table.now) }
     requires endings { AreEndings plan.now (place_of table.now) endings.items }
@@ -68,14 +68,14 @@ fn read_all<'p>(alloc: Global, endings: Vec<Ending<'p>>) -> Result<Reading<'p>, 
     Ok(Reading { replies, writes })
 }
 
-/// The lines of the regions that have left the endings.
+/// Returns the lines of the regions that have left the endings.
 fn lines_of(
     alloc: Global,
     plan: &Plan,
     table: &StoreTable<'_>,
     endings: &[Ending<'_>],
 ) -> Result<Rows<RegionLine>, NoMemory>
-    requires plan { table.now.growing.plan.now ≡ plan.now }
+    requires plan { input_of table.now ≡ plan.now }
     requires full { IsFull plan.now (place_of table.now) (cut_of table.now) }
     requires of { All (IsEndingOn plan.now (place_of table.now)) endings.now }
     ensures { IfOk result (λ lines. lines ≡ map (line_of plan.now) endings.now) }
@@ -87,9 +87,9 @@ fn lines_of(
     Ok(lines)
 }
 
-/// The line of the region that has left the ending: epoch, range, mode and peers are those of the table.
+/// Returns the line of the region that has left the ending: epoch, range, mode and peers are those of the table.
 fn line_of(plan: &Plan, table: &StoreTable<'_>, ending: &Ending<'_>) -> Result<RegionLine, NoMemory>
-    requires plan { table.now.growing.plan.now ≡ plan.now }
+    requires plan { input_of table.now ≡ plan.now }
     requires full { IsFull plan.now (place_of table.now) (cut_of table.now) }
     requires of { IsEndingOn plan.now (place_of table.now) ending.now }
     ensures { IfOk result (λ line. line ≡ line_of plan.now ending.now) }
@@ -109,7 +109,7 @@ fn line_of(plan: &Plan, table: &StoreTable<'_>, ending: &Ending<'_>) -> Result<R
     })
 }
 
-/// What the table says of the region that has left the ending.
+/// Returns what the table says of the region that has left the ending.
 #[tactic(auto, using(crate::proofs::FinalStates::final_is))]
 fn final_state<'a>(table: &'a StoreTable<'_>, ending: &Ending<'_>) -> &'a RegionState
     requires full { IsFull (input_of table.now) (place_of table.now) (cut_of table.now) }

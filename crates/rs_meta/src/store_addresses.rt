@@ -8,7 +8,7 @@ ghost use Rattle.rs_meta.specs.Addresses.{count_on, first_of};
 
 use rs_check::Plan;
 
-/// The id of the store at the place.
+/// Returns the id of the store at the place.
 pub fn id_of(plan: &Plan, place: u32) -> u64
     requires { place < length plan.now.stores }
     ensures { option_map (λ store. store.id) (slice_get plan.now.stores place) ≡ Some result }
@@ -17,7 +17,7 @@ pub fn id_of(plan: &Plan, place: u32) -> u64
     stores[place as usize].id
 }
 
-/// The first address of the store at the place.
+/// Returns the first address of the store at the place.
 #[tactic(auto, using(crate::proofs::StorePlaces::first_is))]
 pub fn first_of(plan: &Plan, place: u32) -> u32
     requires { place < length plan.now.stores }
@@ -27,7 +27,7 @@ pub fn first_of(plan: &Plan, place: u32) -> u32
     count_below(plan, id_of(plan, place))
 }
 
-/// How many addresses the store at the place has.
+/// Returns how many addresses the store at the place has.
 #[tactic(auto, using(crate::proofs::StorePlaces::count_is))]
 pub fn count_on(plan: &Plan, place: u32) -> u32
     requires { place < length plan.now.stores }
@@ -37,7 +37,7 @@ pub fn count_on(plan: &Plan, place: u32) -> u32
     count_of(plan, id_of(plan, place))
 }
 
-/// How many addresses are of stores below this id.
+/// Returns how many addresses are of stores below this id.
 fn count_below(plan: &Plan, id: u64) -> u32
     ensures { result ≡ count_by (λ row. ltb row.store id) (rows_of plan.now) }
 {
@@ -52,7 +52,7 @@ fn count_below(plan: &Plan, id: u64) -> u32
     count
 }
 
-/// How many addresses are of the store of this id.
+/// Returns how many addresses are of the store of this id.
 fn count_of(plan: &Plan, id: u64) -> u32
     ensures { result ≡ count_by (λ row. row.store == id) (rows_of plan.now) }
 {

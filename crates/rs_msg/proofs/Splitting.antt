@@ -1,6 +1,6 @@
 -- Parts that are split at a key, and parts that are joined.
 use Rattle.std.proofs.Common.{◌≡◌, ◌≤◌, ◌<◌, ℕ, zero, suc, Bool, true, false, not, cond, List, [], ◌∷◌, ◌++◌, length, take, drop, refl, ap, sym, ◌∙◌, arith, subst, append-nil}
-use Rattle.std.specs.List.{AllByRecursion, AllWithin, filter, flat_map}
+use Rattle.std.specs.List.{AllByRecursion, AllWithin, filter}
 use Rattle.std.proofs.lemmas.Grind.{flat_map-append}
 use Rattle.std.proofs.lemmas.List.{append_assoc, take-append-drop}
 use Rattle.rs_key.specs.Keys.{is_below}
@@ -151,9 +151,6 @@ joined_apart first (p ∷ left) at others right apart below some none behind =
     back : (xs : Writes) → AllBelow at (xs ++ written p.writes left) → AllBelow at (written p.writes left)
     back [] all = all
     back (x ∷ xs) all = back xs all.1
-
-pub joined_writes : (first : Writes) (left : List Part) (at : List ℕ) (others : Writes) (right : List Part) → written first (left ++ record { start = at; writes = others } ∷ right) ≡ written first left ++ written others right
-joined_writes first left at others right = written_more first left (record { start = at; writes = others } ∷ right)
 
 -- ---- where a key's place cuts the parts
 

@@ -1,6 +1,6 @@
 -- A map that is cut into the maps of some ranges.
-use Rattle.std.specs.Prelude.{◌≡◌, ℕ, List, [], ◌∷◌, ◌++◌, Option, None, drop}
-use Rattle.rs_key.specs.Ranges.{Bounds, bad_cut_from, cut, cut_from}
+use Rattle.std.specs.Prelude.{◌≡◌, ℕ, List, [], ◌∷◌, ◌++◌, Option, None}
+use Rattle.rs_key.specs.Ranges.{Bounds, bad_cut_from, cut_from}
 use Rattle.rs_part.specs.Items.{Items, kept_items}
 use Rattle.rs_msg.specs.Maps.{Writes, HasItems}
 
@@ -15,10 +15,9 @@ AreKept items [] (m ∷ maps) = ⊥
 AreKept items (r ∷ ranges) [] = ⊥
 AreKept items (r ∷ ranges) (m ∷ maps) = IsKept items r m × AreKept items ranges maps
 
--- the first keys have cut off the parts, and the rest is what lies from the last of them on
-pub record IsCutSoFar (items : Items) (range : Bounds) (keys : List (List ℕ)) (done : ℕ) (rest : Writes) (parts : List Writes) : Type 0 where
-  pub start : Option (List ℕ)
-  pub place : ℕ
-  pub good : bad_cut_from place start range.end (drop done keys) ≡ None
-  pub kept : IsKept items (record { start = start; end = range.end }) rest
-  pub whole : (maps : List Writes) → AreKept items (cut_from start range.end (drop done keys)) maps → AreKept items (cut range keys) (parts ++ maps)
+-- behind the old maps stand those of the ranges into which the keys cut the map's range, whatever that is
+pub record AddsCuts (keys : List (List ℕ)) (map : Writes) (old new : List Writes) : Type 0 where
+  pub maps : List Writes
+  pub added : new ≡ old ++ maps
+  pub kept : (items : Items) (place : ℕ) (start end : Option (List ℕ)) → bad_cut_from place start end keys ≡ None
+      → IsKept items (record { start = start; end = end }) map → AreKept items (cut_from start end keys) maps

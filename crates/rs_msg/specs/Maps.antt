@@ -71,7 +71,7 @@ abbrev pub AreApart : Writes → List Part → Type 0
 AreApart first [] = Unit {0}
 AreApart first (p ∷ parts) = AllBelow p.start first × NoneBelow p.start p.writes × (0 < length p.writes) × AreApart p.writes parts
 
--- and there is a first part, unless there is none at all
+-- the parts are those of the writes, and there is a first part unless there is none at all
 abbrev pub AreParts : Writes → List Part → Type 0
 AreParts first parts = AreApart first parts × ((0 < length parts) → (0 < length first))
 

@@ -11,15 +11,19 @@ use Rattle.rs_entry.specs.declared.outcome.Mode.{Mode}
 use Rattle.rs_entry.specs.declared.outcome.Mode.TheVariants as mode
 use Rattle.rs_region.specs.declared.state.RegionState.{RegionState}
 
+-- the keys below m
 abbrev pub below_m : Bounds
 below_m = record { start = None; end = Some (0x6d ∷ []) }
 
+-- the keys from m on
 abbrev pub from_m : Bounds
 from_m = record { start = Some (0x6d ∷ []); end = None }
 
+-- all keys
 abbrev pub all_keys : Bounds
 all_keys = record { start = None; end = None }
 
+-- a boot region with no peers
 abbrev pub boot_region : ℕ → Bounds → Boot
 boot_region region range = record { region = region; range = range; peers = [] }
 
@@ -27,6 +31,7 @@ boot_region region range = record { region = region; range = range; peers = [] }
 abbrev pub log_of : ℕ → Body → Log
 log_of region b = record { region = region; entries = record { index = 6; epoch = record { conf_ver = 1; version = 1 }; body = b } ∷ [] }
 
+-- a store with two boot regions, of which the second joins the first
 abbrev pub small_store : Store
 small_store = record {
   id = 1;
@@ -34,6 +39,7 @@ small_store = record {
   logs = log_of 1 (body.Prepare 2) ∷ log_of 2 (body.Commit 1 6 []) ∷ [];
 }
 
+-- the input with this store alone
 abbrev pub small_input : Input
 small_input = record { version = 1; stores = small_store ∷ [] }
 
@@ -48,7 +54,7 @@ region_with region conf_ver version range m =
 abbrev pub opened : RegionState
 opened = region_with 1 1 1 below_m mode.Normal
 
--- after its prepare
+-- the source after its prepare
 abbrev pub prepared : RegionState
 prepared = region_with 1 2 2 below_m (mode.Merging 2 6)
 

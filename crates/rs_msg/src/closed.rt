@@ -51,6 +51,7 @@ impl<'p> Closed<'p> {
         }
     }
 
+    /// Returns the address of the region that ended.
     pub fn address(&self) -> u32
         ensures { result ≡ self.now.address }
     {
@@ -71,12 +72,14 @@ impl<'p> Closed<'p> {
         self.commit
     }
 
+    /// Returns the region's state at the end.
     pub fn state(&self) -> &RegionState
         ensures { result.now ≡ self.now.state }
     {
         &self.state
     }
 
+    /// Returns the writes that the region holds.
     pub fn map(&self) -> &Map<'p>
         ensures { result.now ≡ self.now.map }
     {

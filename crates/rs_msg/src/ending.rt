@@ -9,7 +9,7 @@ use rs_entry::ReplyLine;
 use rs_key::Rows;
 use rs_region::RegionState;
 
-/// What a region leaves at its stop: its state, all its replies and, unless it ends merged or removed, its map.
+/// The end of a region: its state, all its replies and, unless it ends merged or removed, its map.
 #[derive(Drop)]
 pub struct Ending<'p> {
     plan: &'p Plan,
@@ -47,6 +47,7 @@ impl<'p> Ending<'p> {
         }
     }
 
+    /// Returns the address of the region that ended.
     pub fn address(&self) -> u32
         ensures { result ≡ self.now.address }
     {
@@ -60,12 +61,14 @@ impl<'p> Ending<'p> {
         &self.state
     }
 
+    /// Returns the replies to the region's entries, in the entries' order.
     pub fn replies(&self) -> &Rows<ReplyLine>
         ensures { result.now ≡ self.now.replies }
     {
         &self.replies
     }
 
+    /// Returns the writes that the region holds; `None` if it was merged into another.
     pub fn map(&self) -> Option<&Map<'p>>
         ensures { option_copied result ≡ self.now.map }
     {

@@ -3,7 +3,7 @@ ghost use Rattle.std.specs.List.Sorted.{IsPartitionPoint};
 ghost use Rattle.rs_key.specs.Ranges.{Bounds, cut, first_bad_cut};
 ghost use Rattle.rs_store.specs.Stores.{wrote};
 ghost use Rattle.rs_part.specs.Items.{Items};
-ghost use Rattle.rs_msg.specs.Cuts.{AreKept, IsKept};
+ghost use Rattle.rs_msg.specs.Cuts.{AddsCuts, AreKept, IsKept};
 ghost use Rattle.rs_msg.specs.Maps.{AreApart, HasFront, HasItems, LiesBelow, LiesFrom, StartsRise, begins_by, items_at, items_below, items_from, items_of_both, some_part, with_writes, written};
 
 use crate::part::Part;
@@ -13,10 +13,10 @@ use rs_key::{Key, NoMemory, Rows};
 use std::alloc::Global;
 use std::marker::Model;
 
-/// What was written of each key, in the order of the writes. Contracts see the writes, and read them by `items_at`.
+/// The writes of each key, in their order. Contracts see the writes, and read them by `items_at`.
 #[derive(Drop)]
 pub struct Map<'p> {
-    /// What was written of the keys below the first part's start.
+    /// The writes of the keys below the first part's start.
     first: Writes<'p>,
     /// The other parts, from left to right.
     parts: Vec<Part<'p>>,
@@ -33,7 +33,7 @@ impl<'p> Model for Map<'p> {
 }
 
 impl<'p> Map<'p> {
-    /// The map without a write. It takes no memory.
+    /// Returns the map without a write. It takes no memory.
     pub fn new(alloc: Global) -> Map<'p>
         ensures { result ≡ [] }
     {
@@ -43,7 +43,7 @@ impl<'p> Map<'p> {
         }
     }
 
-    /// Whether nothing was written.
+    /// Returns whether nothing was written.
     pub fn is_empty(&self) -> bool
         ensures { IsTrue result ↔ (self.now ≡ []) }
     {
@@ -61,7 +61,7 @@ impl<'p> Map<'p> {
         Ok(())
     }
 
-    /// The map of what both have, of which the one has keys below this one alone, and the other has none.
+    /// Returns the map of what both have, of which the one has keys below this one alone, and the other has none.
     pub fn join(below: Map<'p>, at: Key, others: Map<'p>) -> Result<Map<'p>, NoMemory>
         requires below { LiesBelow at below }
         requires others { LiesFrom at others }
@@ -83,22 +83,18 @@ impl<'p> Map<'p> {
         Ok(Map { first, parts })
     }
 
-    /// The maps of the ranges into which the keys cut a range, from left to right.
+    /// Returns the maps of the ranges into which the keys cut a range, from left to right.
+    #[tactic(auto, using(crate::proofs::Cutting::all_cuts))]
     pub fn cut(self, alloc: Global, keys: &Rows<Key>) -> Result<Vec<Map<'p>>, NoMemory>
         ensures { IfOk result (λ maps. (items : Items) (range : Bounds) → first_bad_cut range keys.now ≡ None → IsKept items range self.entry → AreKept items (cut range keys.now) maps.items) }
     {
-        let mut rest = self;
         let mut maps = Vec::new(alloc);
-        for key in keys.as_slice() {
-            let (left, right) = rest.split_at(alloc, key)?;
-            maps.push(left)?;
-            rest = right;
-        }
-        maps.push(rest)?;
+        let last = keys.as_slice().len().saturating_sub(1);
+        cut_into(alloc, self, keys.as_slice(), last, &mut maps)?;
         Ok(maps)
     }
 
-    /// All writes: by key ranges, and those of a key in their order.
+    /// Returns all writes: by key ranges, and those of a key in their order.
     pub fn into_writes(self) -> Result<Writes<'p>, NoMemory>
         ensures { IfOk result (λ writes. writes ≡ self.entry) }
     {
@@ -123,7 +119,7 @@ impl<'p> Map<'p> {
         }
     }
 
-    /// The maps of the keys below this one, and of the others.
+    /// Returns the maps of the keys below this one, and of the others.
     fn split_at(self, alloc: Global, key: &Key) -> Result<(Map<'p>, Map<'p>), NoMemory>
         ensures below { IfOk result (λ maps. HasItems maps.0 (items_below key.now (items_at self.entry))) }
         ensures others { IfOk result (λ maps. HasItems maps.1 (items_from key.now (items_at self.entry))) }
@@ -144,7 +140,7 @@ impl<'p> Map<'p> {
         }
     }
 
-    /// The map of these parts, of which the first may have no write.
+    /// Returns the map of these parts, of which the first may have no write.
     fn led_by(first: Writes<'p>, parts: Vec<Part<'p>>) -> Map<'p>
         requires { AreApart first parts.items }
         ensures { result ≡ written first.entry parts.entry.items }
@@ -161,7 +157,31 @@ impl<'p> Map<'p> {
     }
 }
 
-/// The parts with one more at the end, unless it has no write.
+/// Adds the maps of the ranges into which the keys cut the map's range, from left to right. It cuts at the key at this
+/// place first, and then each side at its middle key, so that no write is moved once for each key.
+#[tactic(auto, using(crate::proofs::Cutting::no_cut))]
+fn cut_into<'p>(
+    alloc: Global,
+    map: Map<'p>,
+    keys: &[Key],
+    at: usize,
+    maps: &mut Vec<Map<'p>>,
+) -> Result<(), NoMemory>
+    requires within { at ≤ length keys.now }
+    requires there { at ≡ length keys.now → at ≡ 0 }
+    ensures { OnOk result (AddsCuts keys.now map.entry maps.old.items maps.new.items) }
+{
+    let (before, others) = keys.split_at(at);
+    let Some((key, behind)) = others.split_first() else {
+        maps.push(map)?;
+        return Ok(());
+    };
+    let (left, right) = map.split_at(alloc, key)?;
+    cut_into(alloc, left, before, before.len() / 2, maps)?;
+    cut_into(alloc, right, behind, behind.len() / 2, maps)
+}
+
+/// Returns the parts with one more at the end, unless it has no write.
 fn with_part<'p>(
     parts: Vec<Part<'p>>,
     start: Key,
@@ -176,7 +196,7 @@ fn with_part<'p>(
     Ok(parts)
 }
 
-/// How many of the parts begin at the key or below it.
+/// Returns how many of the parts begin at the key or below it.
 fn parts_to(parts: &[Part<'_>], key: &Key) -> usize
     requires { StartsRise parts.now }
     ensures bound { result ≤ length parts.now }
@@ -185,7 +205,7 @@ fn parts_to(parts: &[Part<'_>], key: &Key) -> usize
     parts.partition_point(|part| begins_by(part, key))
 }
 
-/// Whether the part begins at the key or below it.
+/// Returns whether the part begins at the key or below it.
 fn begins_by(part: &Part<'_>, key: &Key) -> bool
     ensures { result ≡ begins_by key.now part.now }
 {

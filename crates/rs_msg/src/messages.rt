@@ -5,10 +5,10 @@ use rs_check::Plan;
 use rs_entry::Input;
 use rs_mailcore::Named;
 
-/// What a region's peer machine is told.
+/// A message to a region's peer machine.
 #[derive(Drop)]
 pub enum PeerMsg<'p> {
-    /// The store's own log of the region is there up to this index.
+    /// The store's own log of the region has the entries up to this index.
     Deliver {
         plan: &'p Plan,
         upto: u64,
@@ -19,19 +19,20 @@ pub enum PeerMsg<'p> {
         target: u64,
         commit: u64,
     },
-    /// Its apply machine has applied the entries up to this index. Kept for TiKV's protocol.
+    /// The region's apply machine has applied the entries up to this index. Nothing in the program depends on it: it is
+    /// kept for TiKV's protocol.
     Applied {
         plan: &'p Plan,
         upto: u64,
     },
-    /// The target has taken the region over. Kept for TiKV's protocol.
+    /// The target has taken the region over. Nothing in the program depends on it: it is kept for TiKV's protocol.
     MergeResult {
         plan: &'p Plan,
         target: u64,
     },
 }
 
-/// What a region's apply machine is told.
+/// A message to a region's apply machine.
 #[derive(Drop)]
 pub enum ApplyMsg<'p> {
     /// The entries up to this index may be applied.
@@ -43,23 +44,23 @@ pub enum ApplyMsg<'p> {
     Birth {
         piece: Box<Piece<'p>>,
     },
-    /// It is to hand over to the target once its prepare at `commit` is applied.
+    /// Asks the region to hand over to the target once its prepare at `commit` is applied.
     CatchUpLogs {
         plan: &'p Plan,
         target: u64,
         commit: u64,
     },
-    /// A source hands over.
+    /// A source hands its state and its writes over to the region.
     SourceDone {
         closed: Box<Closed<'p>>,
     },
-    /// Tells nothing. Kept for TiKV's protocol.
+    /// Nothing to do. The program never sends it: it is kept for TiKV's protocol.
     Noop {
         plan: &'p Plan,
     },
 }
 
-/// What a store's control machine is told.
+/// A message to a store's control machine.
 #[derive(Drop)]
 pub enum StoreMsg<'p> {
     /// The address has applied its nth reshaping, counted from 1.
@@ -68,7 +69,7 @@ pub enum StoreMsg<'p> {
         address: u32,
         nth: u64,
     },
-    /// A region has ended.
+    /// A region has ended, with what it leaves to the outcome.
     Ended {
         ending: Box<Ending<'p>>,
     },

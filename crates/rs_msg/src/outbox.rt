@@ -4,7 +4,7 @@ use crate::messages::{ApplyMsg, PeerMsg, StoreMsg};
 use rs_key::Rows;
 use std::alloc::Global;
 
-/// What a machine has to send, in the order in which it is sent. The number beside a message is the address of the
+/// The messages that a machine sends, in their order. The number beside a message is the address of the
 /// machine that it goes to; of a control machine, its store's place in the plan, counted from 0.
 #[derive(Drop)]
 pub struct Outbox<'p> {

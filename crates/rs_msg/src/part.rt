@@ -1,7 +1,7 @@
 use rs_history::Writes;
 use rs_key::Key;
 
-/// What was written of the keys from the start on, as far as they are below the next part's.
+/// The writes of the keys from the start on that are below the next part's start.
 #[derive(Drop)]
 pub struct Part<'p> {
     pub start: Key,

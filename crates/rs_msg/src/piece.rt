@@ -35,18 +35,21 @@ impl<'p> Piece<'p> {
         }
     }
 
+    /// Returns the address of the new region.
     pub fn address(&self) -> u32
         ensures { result ≡ self.now.address }
     {
         self.address
     }
 
+    /// Returns the state with which the region begins.
     pub fn state(&self) -> &RegionState
         ensures { result.now ≡ self.now.state }
     {
         &self.state
     }
 
+    /// Returns the writes with which the region begins.
     pub fn map(&self) -> &Map<'p>
         ensures { result.now ≡ self.now.map }
     {

@@ -7,7 +7,7 @@ use Rattle.rs_entry.specs.declared.input.Boot.{Boot}
 use Rattle.rs_entry.specs.declared.input.Store.{Store}
 use Rattle.rs_region.specs.Reshapings.{boot}
 use Rattle.rs_store.specs.declared.regions.Origin.TheVariants as origins
-use Rattle.rs_store.specs.Stores.{Applied, ByRegion, Went, after, born, no_regions, opening, with_regions}
+use Rattle.rs_store.specs.Stores.{Applied, ByRegion, born, no_regions, opening, with_regions}
 use Rattle.rs_part.specs.Counting.{IsAmong}
 use Rattle.rs_part.specs.Held.{Held, HeldOnce, IsBootKey}
 use Rattle.rs_part.specs.Orders.{End, follow}
@@ -15,7 +15,6 @@ use Rattle.rs_part.specs.Scripts.{Script}
 use Rattle.rs_part.specs.Sound.{Sound}
 use Rattle.rs_part.specs.Telling.{Begins, Tells, boot_states}
 use Rattle.rs_part.specs.Whole.{Invariant}
-use Rattle.rs_part.proofs.Canonical.{after_invariant}
 use Rattle.rs_part.proofs.Covering.{regions_exact}
 use Rattle.rs_part.proofs.Regions.{regions_all}
 use Rattle.rs_part.proofs.Whole.{order_invariant}
@@ -65,8 +64,3 @@ covers script store begins h inv key = ((λ b. one ((inv.whole.keys key).0 (open
 pub covered : (script : Script) (store : Store) → Tells script store → Begins script store → (order : List ℕ) (h : Applied) → follow store 1 order (opening store) ≡ End h
     → (key : List ℕ) → (IsBootKey store key → HeldOnce h key) × (Held h key → IsBootKey store key)
 covered script store tells begins order h e = covers script store begins h (order_invariant script store tells begins order h e)
-
--- and so after each number of steps of the canonical one
-pub covered_after : (script : Script) (store : Store) → Tells script store → Begins script store → (n : ℕ) (h : Applied) → after store n ≡ Went h
-    → (key : List ℕ) → (IsBootKey store key → HeldOnce h key) × (Held h key → IsBootKey store key)
-covered_after script store tells begins n h e = covers script store begins h (after_invariant script store tells begins n h e)

@@ -16,7 +16,6 @@ use Rattle.rs_part.proofs.Members.{among_find}
 use Rattle.rs_part.proofs.Modes.{live_unmerged}
 use Rattle.rs_part.proofs.Opening.{opening_normal, opening_sound}
 use Rattle.rs_part.proofs.Orders.{step_sound}
-use Rattle.rs_part.proofs.Parts.{one_part}
 use Rattle.rs_part.proofs.Regions.{same_region}
 
 -- one step of the canonical order: nothing changed, or a ready region stepped
@@ -100,9 +99,3 @@ pub at_is_part : (script : Script) (store : Store) → Tells script store → Be
 unfolding at
 at_is_part script store tells begins id index v e =
     first_is_part script store tells id index (entries_in store) (opening store) (opening_sound script store begins) (λ t m i. ap is_unmerged (opening_normal store id t m).1) v e
-
--- two stores agree on a region at each index that both have come to
-pub stores_agree_at : (script : Script) (one other : Store) → Tells script one → Begins script one → Tells script other → Begins script other
-    → (id index : ℕ) (v w : Part) → at one id index ≡ Some v → at other id index ≡ Some w → v ≡ w
-stores_agree_at script one other t1 b1 t2 b2 id index v w e f =
-    one_part script id index v w (at_is_part script one t1 b1 id index v e) (at_is_part script other t2 b2 id index w f)

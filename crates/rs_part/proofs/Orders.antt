@@ -15,13 +15,11 @@ use Rattle.rs_region.specs.declared.verdict.Verdict.{Verdict}
 use Rattle.rs_region.specs.declared.verdict.Verdict.TheVariants as verdicts
 use Rattle.rs_store.specs.Stores.{Applied, Went, accept, commit_with, goes_on, is_live, is_paused, is_prepared_for, is_ready, is_unmerged, next, own, ready_in, ready_with, step, step_by, step_in, step_with}
 use Rattle.rs_store.specs.declared.regions.Made.{Made}
-use Rattle.rs_part.specs.Orders.{End, follow}
 use Rattle.rs_part.specs.Parts.{Part, part_of, unmarked}
 use Rattle.rs_part.specs.Scripts.{IsPart, Script}
 use Rattle.rs_part.specs.Sound.{Removal, Sound}
 use Rattle.rs_part.specs.Telling.{Tells}
 use Rattle.rs_part.proofs.CommitStep.{by_commit}
-use Rattle.rs_part.proofs.Following.{order_keeps}
 use Rattle.rs_part.proofs.Modes.{live_unmarked, unmerged_cases}
 use Rattle.rs_part.proofs.Parts.{one_part}
 use Rattle.rs_part.proofs.SplitStep.{by_split}
@@ -82,12 +80,6 @@ step_sound script store tells g sound id h ready st = at_region (g.region id) re
     at_region None here ready s = absurd cc
     at_region (Some r) here ready s =
         at_entry r here (and_parts (goes_on (own store id) r.state) (ready_with g r.state (next store g id r)) ready).0 (next store g id r) refl s
-
--- and so does an order
-pub order_sound : (script : Script) (store : Store) → Tells script store → (order : List ℕ) (place : ℕ) (g h : Applied) → Sound script store g
-    → follow store place order g ≡ End h → Sound script store h
-order_sound script store tells order place g h sound e =
-    order_keeps store (Sound script store) (λ x y id ready st was. step_sound script store tells x was id y ready st) order place g h sound e
 
 -- two stores, each by an order of its own, agree on the part of an unmerged region that both have brought to one index
 pub stores_agree : (script : Script) (one other : Store) (g h : Applied) → Sound script one g → Sound script other h

@@ -18,22 +18,22 @@ IsAmong x (y ∷ ys) = (x ≡ y) ⊎ IsAmong x ys
 abbrev pub MadeIn : Store → Applied → Type 0
 MadeIn store g = (x : ℕ) (r : Made) → g.region x ≡ Some r → IsAmong x (ids_of store)
 
--- where an entry stands
+-- the place of an entry
 pub record Slot : Type 0 where
   pub region : ℕ
   pub index : ℕ
 
--- where the entries stand that a body carries
+-- the places of the entries that a body carries
 abbrev pub carried_slots : Body → List Slot
 carried_slots (body.Commit source commit carried) = map (λ c. record { region = source; index = c.index }) carried
 carried_slots b = []
 
--- where the entries of a region's log from this index on stand, with those that they carry
+-- the places of the entries of a region's log from this index on, with those that they carry
 abbrev pub slots_from : ℕ → ℕ → List Entry → List Slot
 slots_from region index [] = []
 slots_from region index (e ∷ es) = record { region = region; index = index } ∷ (carried_slots e.body ++ slots_from region (index + 1) es)
 
--- where all entries of the store's logs stand; the first of a log has the index 6
+-- the places of all entries of the store's logs; the first of a log has the index 6
 abbrev pub slots_of : Store → List Slot
 slots_of store = flat_map (λ log. slots_from log.region 6 log.entries) store.logs
 

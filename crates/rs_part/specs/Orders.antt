@@ -4,12 +4,13 @@ use Rattle.rs_entry.specs.declared.input.Store.{Store}
 use Rattle.rs_store.specs.declared.fault.StepFault.{StepFault}
 use Rattle.rs_store.specs.Stores.{Applied, Stepped, Went, Broke, is_ready, step}
 
--- where an order of regions leads: to an end, to a place whose region isn't ready, or to a fault
+-- what an order of regions leads to: an end, a place whose region isn't ready, or a fault
 pub data Followed : Type 0 where
   End : Applied → Followed
   NotReady : (place : ℕ) → Followed
   Faulty : StepFault → Followed
 
+-- goes on after a step that broke no law
 abbrev pub follow_by : (Applied → Followed) → Stepped → Followed
 follow_by go (Went g) = go g
 follow_by go (Broke fault) = Faulty fault

@@ -8,6 +8,7 @@ use Rattle.rs_store.specs.declared.regions.Made.{Made}
 use Rattle.rs_store.specs.Stores.{Applied, Stepped, Went, Broke, opening, then_advance, entries_in, first_some}
 use Rattle.rs_part.specs.Items.{Items, items_in}
 
+-- a region's part: its state, and by key the items of the history that it holds
 pub record Part : Type 0 where
   pub state : RegionState
   pub items : Items
@@ -21,13 +22,16 @@ mode_before m = m
 abbrev pub unmarked : RegionState → RegionState
 unmarked s = record { region = s.region; epoch = s.epoch; range = s.range; peers = s.peers; mode = mode_before s.mode }
 
+-- the part of a region that was made: its state and the writes in its range
 abbrev pub part_of : Applied → Made → Part
 part_of g r = record { state = unmarked r.state; items = items_in r.state.range g.writes }
 
+-- the part, if the region has applied exactly the entries up to the index
 abbrev pub part_if : ℕ → Applied → Option Made → Option Part
 part_if index g None = None
 part_if index g (Some r) = if r.applied == index then Some (part_of g r) else None
 
+-- the part of the region after this step, if it has applied exactly the entries up to the index
 abbrev pub part_when : ℕ → ℕ → Stepped → Option Part
 part_when id index (Broke fault) = None
 part_when id index (Went g) = part_if index g (g.region id)

@@ -31,6 +31,7 @@ Found = ℕ → ℕ → Option Part
 
 -- ---- births
 
+-- the part of a child: its state, and those of the parent's items that are in its range
 abbrev pub child_with : Part → Option RegionState → Option Part
 child_with v None = None
 child_with v (Some s) = Some (record { state = s; items = kept_items s.range v.items })
@@ -40,15 +41,18 @@ abbrev pub child_in : ℕ → Part → Body → Option Part
 child_in id v (body.Split side ids keys) = child_with v (find (λ s. s.region == id) (split_new v.state side ids keys))
 child_in id v b = None
 
+-- the child's part, if the parent accepts the split
 abbrev pub child_by : ℕ → Part → Body → Bool → Option Part
 child_by id v b true = child_in id v b
 child_by id v b false = None
 
+-- the part of the child that the entry at the parent makes, if it makes it
 abbrev pub child_of : ℕ → Option Entry → Option Part → Option Part
 child_of id None v = None
 child_of id (Some e) None = None
 child_of id (Some e) (Some v) = child_by id v e.body (is_accept (verdict v.state e))
 
+-- the part with which a region begins: from boot, off a split, or none
 abbrev pub begun : Script → Found → ℕ → Birth → Option Part
 begun script found id Never = None
 begun script found id (Opened range peers) = Some (record { state = boot id range peers; items = no_items })
@@ -56,6 +60,7 @@ begun script found id (SplitOff parent index) = child_of id (script.line parent 
 
 -- ---- entries
 
+-- the part of a target with its source's range and items
 abbrev pub joined_part : Part → Part → Part
 joined_part v u = record { state = committed v.state u.state; items = λ k. v.items k ++ u.items k }
 
@@ -63,6 +68,7 @@ joined_part v u = record { state = committed v.state u.state; items = λ k. v.it
 abbrev pub may_join : ℕ → ℕ → Part → Part → Bool
 may_join id commit v u = is_prepared_for id commit u.state.mode && is_next_to v.state.range u.state.range
 
+-- the target joined with its source, if they may be joined
 abbrev pub with_source : ℕ → ℕ → Part → Option Part → Option Part
 with_source id commit v None = None
 with_source id commit v (Some u) = if may_join id commit v u then Some (joined_part v u) else None
@@ -84,6 +90,7 @@ after_by verdicts.Accept found id index v b = accepted found id index v b
 after_by verdicts.BadRollback found id index v b = None
 after_by _ found id index v b = Some v
 
+-- the part after its next entry, if both are there
 abbrev pub after_line : Found → ℕ → ℕ → Option Entry → Option Part → Option Part
 after_line found id index None v = None
 after_line found id index (Some e) None = None
@@ -91,6 +98,7 @@ after_line found id index (Some e) (Some v) = after_by (verdict v.state e) found
 
 -- ---- descent
 
+-- the part at the index: the region's beginning, or the part before it after one more entry
 abbrev pub grow_by : Bool → Script → Found → ℕ → ℕ → Option Part
 grow_by true script found id index = begun script found id (script.birth id)
 grow_by false script found id index = after_line found id index (script.line id index) (found id (index - 1))

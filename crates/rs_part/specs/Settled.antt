@@ -15,6 +15,7 @@ use Rattle.rs_store.specs.Stores.{Applied, own, is_paused}
 use Rattle.rs_part.specs.Parts.{Part}
 use Rattle.rs_part.specs.Scripts.{Script, IsPart}
 
+-- the region was made
 abbrev pub IsMade : Applied → ℕ → Type 0
 IsMade g x = (r : Made) × (g.region x ≡ Some r)
 
@@ -45,6 +46,7 @@ pub record Ended (script : Script) (store : Store) (x : ℕ) (r : Made) (t : ℕ
   pub merging : part.state.mode ≡ mode.Merging t r.applied
   pub paused : is_paused (own store x) part.state ≡ true
 
+-- what holds of the merged regions of a store at each step
 pub record Settled (script : Script) (store : Store) (g : Applied) : Type 0 where
   -- a merged region rested at the prepare of that merge
   pub ended : (x : ℕ) (r : Made) (t : ℕ) → g.region x ≡ Some r → r.state.mode ≡ mode.Merged t → Ended script store x r t

@@ -26,6 +26,7 @@ pub record Removal (script : Script) (store id k : ℕ) : Type 0 where
   pub accepted : verdict part.state entry ≡ verdicts.Accept
   pub own_peer : is_removal_of store change ≡ true
 
+-- what holds of the regions that a store made at each step
 pub record Sound (script : Script) (store : Store) (g : Applied) : Type 0 where
   pub since : (id : ℕ) (r : Made) → g.region id ≡ Some r → 5 ≤ r.applied
   pub named : (id : ℕ) (r : Made) → g.region id ≡ Some r → r.state.region ≡ id

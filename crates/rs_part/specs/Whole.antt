@@ -44,6 +44,7 @@ abbrev pub Answers : Script → ℕ → ℕ → List Replied → Type 0
 Answers script id zero replies = replies ≡ []
 Answers script id (suc n) replies = (before : List Replied) × (Answers script id n before) × (Answer script id (n + 5) before replies)
 
+-- what holds of a store as a whole at each step
 pub record Whole (script : Script) (store : Store) (g : Applied) : Type 0 where
   pub known : MadeIn store g
   -- the unmerged regions hold the keys that the regions held at the start

@@ -14,11 +14,12 @@ abbrev pub is_merge_result : PeerMsg → Bool
 is_merge_result (peer.MergeResult plan target) = true
 is_merge_result msg = false
 
--- after one message more
+-- the applied index after one more message
 abbrev pub applied_after : PeerMsg → ℕ → ℕ
 applied_after (peer.Applied plan upto) applied = max applied upto
 applied_after msg applied = applied
 
+-- the result of a merge makes the peer a tombstone; no other message does
 abbrev pub tombstone_after : PeerMsg → Bool → Bool
 tombstone_after (peer.MergeResult plan target) tombstone = true
 tombstone_after msg tombstone = tombstone

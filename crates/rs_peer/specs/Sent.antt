@@ -14,7 +14,7 @@ tasks_of (peer.Deliver plan upto) = apply.Task plan upto ∷ []
 tasks_of (peer.CatchUp plan target commit) = apply.Task plan commit ∷ apply.CatchUpLogs plan target commit ∷ []
 tasks_of msg = []
 
--- with the address that it goes to
+-- the messages that this one leads to, each with the address that it goes to
 abbrev pub sent_for : ℕ → PeerMsg → List (ℕ × ApplyMsg)
 sent_for address msg = map (λ task. (address, task)) (tasks_of msg)
 

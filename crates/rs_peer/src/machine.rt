@@ -24,7 +24,7 @@ pub struct PeerFsm<'p> {
 }
 
 impl<'p> PeerFsm<'p> {
-    /// A machine that was told nothing yet. It takes no memory.
+    /// Returns a machine that was told nothing yet. It takes no memory.
     pub fn new(plan: &'p Plan, address: u32) -> PeerFsm<'p>
         requires below { address < count_of plan.now }
         ensures plan { result.plan ≡ plan.entry }
@@ -77,14 +77,14 @@ impl<'p> PeerFsm<'p> {
         }
     }
 
-    /// The greatest of 5 and the indexes that it was told to be applied.
+    /// Returns the greatest of 5 and the indexes that it was told to be applied.
     pub fn applied(&self) -> u64
         ensures { result ≡ self.now.applied }
     {
         self.applied
     }
 
-    /// Whether it was told that the region was taken over.
+    /// Returns whether it was told that the region was taken over.
     pub fn is_tombstone(&self) -> bool
         ensures { result ≡ self.now.tombstone }
     {

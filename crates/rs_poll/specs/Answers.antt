@@ -8,6 +8,7 @@ use Rattle.rs_poll.specs.declared.worked.Visited.TheVariants as visited
 use Rattle.rs_poll.specs.declared.worked.Worked.{Worked}
 use Rattle.rs_poll.specs.declared.worked.Worked.TheVariants.{Turned, Gone, Nothing}
 
+-- what holds after a machine was handled, after one was found gone, or after nothing was done
 abbrev pub MatchWorked : Worked → (ℕ → Type 0) → (ℕ → Type 0) → Type 0 → Type 0
 MatchWorked (Turned a) T G N = T a
 MatchWorked (Gone a) T G N = G a

@@ -16,10 +16,11 @@ abbrev pub Known : Type 0 → Type 0 → Type 0
 Known P M = View (ContentsName P M P) × Trail P M
 
 module _ {F M P : Type 0} {d : fsm.Ghosts F M P} {n : Ghosts F P} {k : Ghosts M P} where
+  -- what a station knows of its mailbox and of its queue
   abbrev pub known : Station F M P d n k → Known P M
   known s = (view s, trail s)
 
-  -- of each station, in the order of the addresses
+  -- what all stations know, in the order of the addresses
   abbrev pub all_known : List (Station F M P d n k) → List (Known P M)
   all_known ss = map known ss
 
@@ -32,6 +33,7 @@ module _ {P M : Type 0} where
   abbrev pub IsRefused : Known P M → Known P M → Type 0
   IsRefused p q = (word : ℕ) × ((word ≡ 2) ⊎ (2 ^ 50 ≤ p.0.stance.announced)) × (q.0 ≡ looked p.0 word) × (q.1 ≡ p.1)
 
+  -- the message was pushed, or it was refused and nothing is known of it
   abbrev pub Hands : M → Known P M → Known P M → Type 0
   Hands x p q = IsPushed x p q ⊎ IsRefused p q
 

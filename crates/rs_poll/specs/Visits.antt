@@ -12,6 +12,7 @@ use Rattle.rs_poll.specs.declared.handler.More.TheVariants.{Yes, No}
 use Rattle.rs_poll.specs.declared.worked.Visited.{Visited}
 use Rattle.rs_poll.specs.declared.worked.Visited.TheVariants as visited
 
+-- the steps with one more
 abbrev pub step : List Deed → Deed → List Deed
 step deeds d = deeds ++ d ∷ []
 
@@ -91,7 +92,7 @@ Quits handled xs ys = Abandons handled xs ys ⊎ Reschedules 2 handled xs ys
 abbrev pub GivesUp : ℕ → List Deed → List Deed → Type 0
 GivesUp batch xs ys = Takes (λ messages. messages ≤ batch) Quits xs ys
 
--- and what is left of that once the machine was taken
+-- the rest of the turn, once the machine was taken
 abbrev pub Settles : More → ℕ → ℕ → Visited → List ℕ → List ℕ → List Deed → List Deed → Type 0
 Settles more handled address visited.Turned ps qs xs ys = Rests more handled xs ys ⊎ (RunsAgain more 3 handled xs ys × (qs ≡ ps ++ address ∷ []))
 Settles more handled address visited.Gone ps qs xs ys = Drops more handled xs ys

@@ -17,18 +17,18 @@ pub enum More {
     No,
 }
 
-/// What a worker does with a machine and its messages.
+/// The handler of a worker: it handles machines and their messages.
 ///
 /// A handler has a name, and is lent machines, messages and a router of that name alone. What it has to tell others it
 /// puts into its `Out`, and `send_out` sends that once the machine is given back. It counts the messages that it
 /// handled and how often it advanced, and knows what `advance` answered last. Where it has no memory its counts stay.
-pub trait Handler<F: Fsm, S: Scheduler>: Send + Drop {
+pub trait Handler<F: Fsm, S: Scheduler>: Drop {
     ghost use Rattle.std.specs.Prelude.{List};
     ghost use Rattle.rs_poll.specs.Handing.{Known};
     ghost use Rattle.rs_poll.specs.declared.handler.More.{More};
 
-    /// What comes out of the machines, until it is sent.
-    type Out: Send + Drop;
+    /// The messages that come out of the machines, until they are sent.
+    type Out: Drop;
 
     /// The name of the machines and messages that it is lent.
     ghost name: { Self → F.Name };
@@ -36,16 +36,16 @@ pub trait Handler<F: Fsm, S: Scheduler>: Send + Drop {
     /// The number of mailboxes of the router that it is lent.
     ghost count: { Self → ℕ };
 
-    /// How many messages `handle` answered Ok. It stands still at its last value.
+    /// The number of messages that `handle` answered Ok. It saturates at its last value.
     ghost handles: { Self → ℕ };
 
-    /// How often `advance` answered Ok. It stands still at its last value.
+    /// The number of times that `advance` answered Ok. It saturates at its last value.
     ghost advances: { Self → ℕ };
 
-    /// What `advance` answered when it last answered Ok.
+    /// The last Ok answer of `advance`.
     ghost asked: { Self → More };
 
-    /// Which values of `Out` it may be lent.
+    /// The values of `Out` that it may be lent.
     ghost fits: { Self → Self.Out → Type 0 };
 
     ghost one_fit: { (h : Self) (o : Self.Out) → IsProp (fits h o) };

@@ -17,6 +17,7 @@ use rs_base::Gate;
 use rs_mailcore::{Fsm, Named};
 use rs_router::{Desks, Router, Scheduler};
 use rs_rows::NoMemory;
+use std::mem;
 use std::sync::Wait;
 
 /// One worker, with its desks of a router.
@@ -36,7 +37,7 @@ pub struct Poller<'r, F: Fsm, S: Scheduler, H: Handler<F, S>> {
 }
 
 impl<'r, F: Fsm, S: Scheduler, H: Handler<F, S>> Poller<'r, F, S, H> {
-    /// A worker of this number, which handles at most `batch` messages in a turn.
+    /// Returns a worker of this number, which handles at most `batch` messages in a turn.
     pub fn new(
         router: &'r Router<F, S>,
         desks: Desks<F>,
@@ -71,16 +72,31 @@ impl<'r, F: Fsm, S: Scheduler, H: Handler<F, S>> Poller<'r, F, S, H> {
         }
     }
 
-    /// What came out of the machines and wasn't sent.
+    /// Returns what came out of the machines and wasn't sent.
     pub fn out(&self) -> &H::Out
         ensures { result.now ≡ self.now.worker.out }
     {
         &self.worker.out
     }
 
-    /// One turn, in these steps: it pops a ticket and takes its machine, passes the gate, handles at most `batch` messages,
-    /// advances once, gives the machine back, and sends what came out. The machine is rescheduled where it asked for
-    /// more, or where its release found more messages announced than handled.
+    /// Takes what came out of the machines and wasn't sent, and leaves `out` in its place.
+    pub fn replace_out(&mut self, out: H::Out) -> H::Out
+        requires fits { H.fits self.old.worker.handler out }
+        ensures out { result ≡ self.old.worker.out }
+        ensures fits { H.fits self.old.worker.handler result }
+        ensures left { self.new.worker.out ≡ out }
+        ensures router { self.new.router ≡ self.old.router }
+        ensures desks { self.new.desks ≡ self.old.desks }
+        ensures worker { (self.new.worker.pass ≡ self.old.worker.pass) × (self.new.worker.handler ≡ self.old.worker.handler) }
+        ensures numbers { (self.new.worker.number ≡ self.old.worker.number) × (self.new.worker.batch ≡ self.old.worker.batch) }
+    {
+        let worker = &mut self.worker;
+        mem::replace(&mut worker.out, out)
+    }
+
+    /// Takes one turn, in these steps: it pops a ticket and takes its machine, passes the gate, handles at most
+    /// `batch` messages, advances once, gives the machine back, and sends what came out. The machine is rescheduled
+    /// where it asked for more, or where its release found more messages announced than handled.
     ///
     /// Where memory is refused while it has the machine, or its ticket is refused, the mailbox is closed and the
     /// machine dropped. After NoMemory the run is to end.

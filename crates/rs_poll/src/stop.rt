@@ -1,4 +1,4 @@
-/// Why a run ends. Workers that share a cell of it stop for one reason.
+/// The reason for which a run ends. Workers that share a cell of it stop for one reason.
 #[derive(Clone, Copy, Debug, PartialEq, Eq)]
 pub enum Stop {
     /// All is done.

@@ -56,7 +56,7 @@ fn visit_at<R: Wait, G: Gate, F: Fsm, S: Scheduler, H: Handler<F, S>>(
     )
 }
 
-/// One turn over the parts of a worker.
+/// Takes one turn over the parts of a worker.
 pub(crate) fn take_turn<R: Wait, G: Gate, F: Fsm, S: Scheduler, H: Handler<F, S>>(
     rt: &R,
     gate: &G,

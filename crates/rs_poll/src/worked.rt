@@ -1,4 +1,4 @@
-/// What a turn did, with the address of the mailbox.
+/// The result of a turn, with the address of the mailbox.
 #[derive(Clone, Copy, Debug, PartialEq, Eq)]
 pub enum Worked {
     /// A machine was worked on, and given back.
@@ -9,7 +9,7 @@ pub enum Worked {
     Nothing,
 }
 
-/// What a visit to one mailbox was.
+/// The result of a visit to one mailbox.
 #[derive(Clone, Copy, Debug)]
 pub(crate) enum Visited {
     Turned,

@@ -13,7 +13,7 @@ use Rattle.rs_region.specs.Verdicts.{is_good_change}
 
 -- ---- keys
 
--- where both bounds are there, the start is below the end
+-- the start is below the end if both bounds are there
 abbrev pub Rises : Bounds → Type 0
 Rises range = is_range range.start range.end ≡ true
 
@@ -77,7 +77,7 @@ SplitShares = (side : Side) (ids : List ℕ) (range : Bounds) (keys : List (List
 abbrev pub JoinHoldsBoth : Type 0
 JoinHoldsBoth = (a b : Bounds) → Rises a → Rises b → is_next_to a b ≡ true → (key : List ℕ) → holds (join a b) key ≡ holds a key || holds b key
 
--- and its bounds rise
+-- the bounds of a join rise
 abbrev pub JoinRises : Type 0
 JoinRises = (a b : Bounds) → Rises a → Rises b → is_next_to a b ≡ true → Rises (join a b)
 
@@ -91,15 +91,19 @@ pub record IsRaised (before after : Epoch) (step : ℕ) : Type 0 where
   pub conf_ver_near : after.conf_ver ≤ before.conf_ver + step
   pub version_near : after.version ≤ before.version + step
 
+-- a split into at least one new region raises the version by their number
 abbrev pub SplitRaises : Type 0
 SplitRaises = (e : Epoch) (n : ℕ) → 0 < n → IsRaised e (after_split e n) n
 
+-- a prepared merge raises the source's version by one
 abbrev pub PrepareRaises : Type 0
 PrepareRaises = (e : Epoch) → IsRaised e (after_prepare e) 1
 
+-- a rolled back merge raises the source's version by one
 abbrev pub RollbackRaises : Type 0
 RollbackRaises = (e : Epoch) → IsRaised e (after_rollback e) 1
 
+-- a conf change raises the epoch by one
 abbrev pub ConfRaises : Type 0
 ConfRaises = (e : Epoch) → IsRaised e (after_conf e) 1
 
@@ -110,6 +114,7 @@ pub record IsAboveBoth (target source after : Epoch) : Type 0 where
   pub above_source : source.version < after.version
   pub near : (bound : ℕ) → target.version ≤ bound → source.version ≤ bound → after.version ≤ bound + 1
 
+-- a committed merge raises the target's version above both versions
 abbrev pub CommitRaises : Type 0
 CommitRaises = (target source : Epoch) → IsAboveBoth target source (after_commit target source)
 

@@ -1,3 +1,4 @@
+pub mod Actions
 pub mod Laws
 pub mod Reshapings
 pub mod Verdicts

@@ -18,12 +18,12 @@ boot region range peers =
 
 -- ---- splits
 
--- the first of the ranges, or the given one where there are none
+-- the first of the ranges, or the given one if there are none
 abbrev pub first_of : Bounds → List Bounds → Bounds
 first_of whole [] = whole
 first_of whole (r ∷ rs) = r
 
--- the last of the ranges, or the given one where there are none
+-- the last of the ranges, or the given one if there are none
 abbrev pub last_of : Bounds → List Bounds → Bounds
 last_of whole [] = whole
 last_of whole (r ∷ rs) = last_of r rs
@@ -33,7 +33,7 @@ abbrev pub but_first : List Bounds → List Bounds
 but_first [] = []
 but_first (r ∷ rs) = rs
 
--- of the ranges from left to right, the one that the split region keeps
+-- the range that the split region keeps, of those from left to right
 abbrev pub kept_range : Side → Bounds → List Bounds → Bounds
 kept_range side.Right whole parts = last_of whole parts
 kept_range side.Left whole parts = first_of whole parts
@@ -52,6 +52,7 @@ abbrev pub split_kept : RegionState → Side → List (List ℕ) → RegionState
 split_kept s side keys =
     record { region = s.region; epoch = after_split s.epoch (length keys); range = kept_range side s.range (cut s.range keys); peers = s.peers; mode = mode.Normal }
 
+-- a region that a split makes, with its share of ids and ranges
 abbrev pub new_region : Epoch → List ℕ → ℕ × Bounds → RegionState
 new_region epoch peers share = record { region = share.0; epoch = epoch; range = share.1; peers = peers; mode = mode.Normal }
 
@@ -61,10 +62,12 @@ split_new s side ids keys = map (new_region (after_split s.epoch (length keys)) 
 
 -- ---- merges
 
+-- the source after the prepare at the index
 abbrev pub prepared : RegionState → ℕ → ℕ → RegionState
 prepared s target index =
     record { region = s.region; epoch = after_prepare s.epoch; range = s.range; peers = s.peers; mode = mode.Merging target index }
 
+-- the source after its merge was rolled back
 abbrev pub rolled_back : RegionState → RegionState
 rolled_back s = record { region = s.region; epoch = after_rollback s.epoch; range = s.range; peers = s.peers; mode = mode.Normal }
 
@@ -87,10 +90,12 @@ with_peer peers peer = filter (λ p. nat_lt p peer) peers ++ (peer ∷ []) ++ fi
 abbrev pub without_peer : List ℕ → ℕ → List ℕ
 without_peer peers peer = filter (λ p. not (p == peer)) peers
 
+-- the peers after a conf change
 abbrev pub changed_peers : List ℕ → Change → List ℕ
 changed_peers peers (change.Add peer) = with_peer peers peer
 changed_peers peers (change.Remove peer) = without_peer peers peer
 
+-- the region after a conf change
 abbrev pub reconfigured : RegionState → Change → RegionState
 reconfigured s c = record { region = s.region; epoch = after_conf s.epoch; range = s.range; peers = changed_peers s.peers c; mode = mode.Normal }
 

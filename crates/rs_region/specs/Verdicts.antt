@@ -29,6 +29,7 @@ kind_of (body.Commit source commit entries) = kind.Commit
 kind_of (body.Rollback commit) = kind.Rollback
 kind_of (body.Conf c) = kind.Conf
 
+-- the body is empty
 abbrev pub is_empty : Body → Bool
 is_empty body.Empty = true
 is_empty _ = false
@@ -37,12 +38,12 @@ is_empty _ = false
 abbrev pub is_outside : Bounds → Op → Bool
 is_outside range op = not (holds range (key_of op))
 
--- of a write, where the place, counted from 0, is that of the first operation outside the range
+-- the verdict on a write, by the place, counted from 0, of its first operation outside the range
 abbrev pub write_verdict : Option ℕ → Verdict
 write_verdict None = verdicts.Accept
 write_verdict (Some place) = verdicts.Outside (place + 1)
 
--- of a split, where the place, counted from 1, is that of the first bad cut
+-- the verdict on a split, by the place, counted from 1, of its first bad cut
 abbrev pub split_verdict : Option ℕ → Verdict
 split_verdict None = verdicts.Accept
 split_verdict (Some place) = verdicts.BadSplit place
@@ -56,12 +57,12 @@ abbrev pub is_good_change : List ℕ → Change → Bool
 is_good_change peers (change.Add peer) = not (is_peer peers peer) && nat_lt (length peers) 64
 is_good_change peers (change.Remove peer) = is_peer peers peer && nat_lt 1 (length peers)
 
--- in a region that is merging since the commit: all but a rollback of this commit is refused
+-- the verdict of a region that is merging since the commit: it refuses all but a rollback of this commit
 abbrev pub merging_verdict : ℕ → Body → Verdict
 merging_verdict commit (body.Rollback c) = if c == commit then verdicts.Accept else verdicts.BadRollback
 merging_verdict commit _ = verdicts.Merging
 
--- in a region that isn't merging
+-- the verdict of a region that isn't merging
 abbrev pub open_verdict : Bounds → List ℕ → Body → Verdict
 open_verdict range peers (body.Write ops) = write_verdict (position (is_outside range) ops)
 open_verdict range peers (body.Split side ids keys) = split_verdict (first_bad_cut range keys)
@@ -69,7 +70,7 @@ open_verdict range peers (body.Conf c) = if is_good_change peers c then verdicts
 open_verdict range peers (body.Rollback commit) = verdicts.BadRollback
 open_verdict range peers _ = verdicts.Accept
 
--- of an entry whose epoch fits
+-- the verdict on an entry whose epoch fits
 abbrev pub fitting_verdict : Mode → Bounds → List ℕ → Body → Verdict
 fitting_verdict (mode.Merging target commit) range peers b = merging_verdict commit b
 fitting_verdict _ range peers b = open_verdict range peers b
@@ -81,5 +82,6 @@ verdict_on s e b =
     else if fits (kind_of b) s.epoch e then fitting_verdict s.mode s.range s.peers b
     else verdicts.Stale
 
+-- what the region answers to the entry
 abbrev pub verdict : RegionState → Entry → Verdict
 verdict s e = verdict_on s e.epoch e.body

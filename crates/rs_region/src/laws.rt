@@ -2,24 +2,24 @@
 
 ghost use Rattle.rs_region.specs.Laws.{CutParts, CutCounts, SplitShares, JoinHoldsBoth, JoinRises, SplitRaises, PrepareRaises, RollbackRaises, CommitRaises, ConfRaises, ChangeKeepsPeers};
 
-/// The ranges of a good cut lie inside the range, in order and apart, and lose no key.
+/// States that the ranges of a good cut lie inside the range, in order and apart, and lose no key.
 pub fn cut_laws()
     ensures parts { CutParts }
     ensures counts { CutCounts }
 {}
 
-/// A split shares the range out among the split region and the new ones: apart, and no key is lost.
+/// States that a split shares the range out among the split region and the new ones: apart, and no key is lost.
 pub fn split_laws()
     ensures { SplitShares }
 {}
 
-/// The join of two ranges next to each other holds exactly what its parts held.
+/// States that the join of two ranges next to each other holds exactly what its parts held.
 pub fn join_laws()
     ensures holds { JoinHoldsBoth }
     ensures rises { JoinRises }
 {}
 
-/// Each reshaping raises the epoch, and by little.
+/// States that each reshaping raises the epoch, and by little.
 pub fn epoch_laws()
     ensures split { SplitRaises }
     ensures prepare { PrepareRaises }
@@ -28,7 +28,7 @@ pub fn epoch_laws()
     ensures conf { ConfRaises }
 {}
 
-/// A change of peers that is accepted leaves a rising list of 1 to 64.
+/// States that a change of peers that is accepted leaves a rising list of 1 to 64.
 pub fn peer_laws()
     ensures { ChangeKeepsPeers }
 {}

@@ -7,7 +7,7 @@ use rs_entry::Change;
 use rs_key::{NoMemory, Rows};
 use std::alloc::Global;
 
-/// The list after the change.
+/// Returns the list after the change.
 pub fn changed_peers(peers: &Rows<u64>, change: &Change) -> Result<Rows<u64>, NoMemory>
     ensures { IfOk result (λ list. list ≡ changed_peers peers.now change.now) }
 {

@@ -1,7 +1,9 @@
 ghost use Rattle.std.specs.Prelude.{◌≡◌, ◌<◌, ◌≤◌, ◌^◌, true, None, length, IfOk, OnOk, OnErr};
 ghost use Rattle.rs_key.specs.Ranges.{first_bad_cut, cut, is_next_to};
+ghost use Rattle.rs_region.specs.Actions.{turned, turned_on};
 ghost use Rattle.rs_region.specs.Reshapings.{split_kept, split_new, prepared, rolled_back, committed, merged_into, reconfigured, removed};
 
+use crate::action::Turn;
 use crate::peers::changed_peers;
 use crate::split::{kept_range, new_ranges, new_regions};
 use crate::state::RegionState;
@@ -38,7 +40,7 @@ impl RegionState {
         Ok(new)
     }
 
-    /// The region, as the source of a merge, is to be taken over by the target: the entry has this index.
+    /// Prepares the merge of the region, as the source, into the target. The entry has this index.
     pub fn exec_prepare(&mut self, target: u64, index: u64)
         requires conf_ver { self.old.epoch.conf_ver < 2 ^ 62 }
         requires version { self.old.epoch.version < 2 ^ 62 }
@@ -51,7 +53,7 @@ impl RegionState {
         };
     }
 
-    /// The region, as the target of a merge, takes over the source, which becomes a tombstone with its last
+    /// Lets the region, as the target of a merge, take over the source, which becomes a tombstone with its last
     /// epoch and range. After NoMemory neither has changed.
     pub fn exec_commit(&mut self, source: &mut RegionState) -> Result<(), NoMemory>
         requires next { is_next_to self.old.range source.old.range ≡ true }
@@ -71,7 +73,7 @@ impl RegionState {
         Ok(())
     }
 
-    /// The merge that the region prepared is called off.
+    /// Rolls back the merge that the region prepared.
     pub fn exec_rollback(&mut self)
         requires { self.old.epoch.version < 2 ^ 62 }
         ensures { self.new ≡ rolled_back self.old }
@@ -93,7 +95,41 @@ impl RegionState {
         Ok(())
     }
 
-    /// The region's peer on this store was removed: it becomes a tombstone.
+    /// The entry with this index turns the region. After NoMemory nothing has changed.
+    pub fn turn(&mut self, turn: Turn, index: u64) -> Result<(), NoMemory>
+        requires conf_ver { self.old.epoch.conf_ver < 2 ^ 62 }
+        requires version { self.old.epoch.version < 2 ^ 62 }
+        ensures ok { OnOk result (self.new ≡ turned index turn self.old) }
+        ensures err { OnErr result (self.new ≡ self.old) }
+    {
+        match turn {
+            Turn::Prepare { target } => {
+                self.exec_prepare(target, index);
+                Ok(())
+            }
+            Turn::Rollback { .. } => {
+                self.exec_rollback();
+                Ok(())
+            }
+            Turn::Conf { change } => self.exec_conf(&change),
+        }
+    }
+
+    /// The entry with this index turns the region on the store, where it becomes a tombstone if its peer is removed.
+    pub fn turn_on(&mut self, store: u64, turn: Turn, index: u64) -> Result<(), NoMemory>
+        requires conf_ver { self.old.epoch.conf_ver < 2 ^ 62 }
+        requires version { self.old.epoch.version < 2 ^ 62 }
+        ensures ok { OnOk result (self.new ≡ turned_on store index turn self.old) }
+        ensures err { OnErr result (self.new ≡ self.old) }
+    {
+        self.turn(turn, index)?;
+        if turn.removes(store) {
+            self.exec_removed();
+        }
+        Ok(())
+    }
+
+    /// Makes the region a tombstone, since its peer on this store was removed.
     pub fn exec_removed(&mut self)
         ensures { self.new ≡ removed self.old }
     {

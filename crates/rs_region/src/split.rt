@@ -9,6 +9,7 @@ use rs_entry::{Mode, Side};
 use rs_key::{Epoch, NoMemory, Range, Rows, TryClone};
 use std::alloc::Global;
 
+/// Returns the part that the old region keeps: the last one, or by `Side::Left` the first.
 pub fn kept_range<'a>(side: Side, whole: &'a Range, parts: &'a [Range]) -> &'a Range
     ensures { result.now ≡ kept_range side whole.now parts.now }
 {
@@ -30,6 +31,7 @@ fn last_of<'a>(whole: &'a Range, parts: &'a [Range]) -> &'a Range
     }
 }
 
+/// Returns the parts that go to the new regions, from left to right.
 pub fn new_ranges(side: Side, parts: &[Range]) -> &[Range]
     ensures { result.now ≡ new_ranges side parts.now }
 {
@@ -42,7 +44,7 @@ pub fn new_ranges(side: Side, parts: &[Range]) -> &[Range]
     }
 }
 
-/// A new region for each id, with the range at the same place.
+/// Returns a new region for each id, with the range at the same place.
 pub fn new_regions(
     alloc: Global,
     epoch: Epoch,

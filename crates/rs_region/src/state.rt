@@ -17,7 +17,7 @@ pub struct RegionState {
 }
 
 impl RegionState {
-    /// A region from the start: Normal, both numbers of its epoch at 1.
+    /// Returns a region from the start: Normal, both numbers of its epoch at 1.
     pub fn boot(region: u64, range: Range, peers: Rows<u64>) -> RegionState
         ensures { result ≡ boot region range peers }
     {

@@ -1,15 +1,17 @@
-ghost use Rattle.std.specs.Prelude.{◌≡◌, false, position};
-ghost use Rattle.rs_entry.specs.Entries.{body_of, entry_of};
-ghost use Rattle.rs_region.specs.Verdicts.{kind_of, is_empty, is_outside, write_verdict, is_peer, is_good_change, merging_verdict, open_verdict, fitting_verdict, verdict};
+ghost use Rattle.std.specs.Prelude.{◌≡◌, position};
+ghost use Rattle.rs_entry.specs.Entries.{entry_of};
+ghost use Rattle.rs_region.specs.Actions.{body_for, turn_body};
+ghost use Rattle.rs_region.specs.Verdicts.{kind_of, is_empty, is_outside, write_verdict, is_peer, is_good_change, merging_verdict, open_verdict, fitting_verdict, verdict_on, verdict};
 
+use crate::action::{Action, Turn, action_of, carried_action_of};
 use crate::state::RegionState;
-use rs_entry::{Body, Carried, CarriedBody, Change, Entry, Mode, Op};
-use rs_key::{Kind, Range};
+use rs_entry::{Carried, Change, Entry, Mode, Op};
+use rs_key::{Epoch, Kind, Range};
 
 /// The most peers of a region.
 const MOST_PEERS: usize = 64;
 
-/// What becomes of an entry.
+/// The verdict on an entry.
 #[derive(Clone, Copy, Debug, PartialEq, Eq)]
 pub enum Verdict {
     /// An empty entry. It has no effect.
@@ -26,132 +28,108 @@ pub enum Verdict {
     BadPeer,
     /// A rollback of a merge that the region isn't in. No lawful log has it.
     BadRollback,
-    /// What the entry says is done.
+    /// The entry is accepted.
     Accept,
 }
 
 impl RegionState {
-    /// What becomes of the entry: the first of the variants that applies, in their order.
+    /// Returns what becomes of the entry: the first of the variants that applies, in their order.
     ///
     /// It is meant for a region that is neither merged nor removed.
     pub fn verdict(&self, entry: &Entry) -> Verdict
         ensures { result ≡ verdict self.now entry.now }
     {
-        if is_empty(&entry.body) {
-            Verdict::Empty
-        } else if self.epoch.matches(kind_of(&entry.body), &entry.epoch) {
-            self.fitting_verdict(&entry.body)
-        } else {
-            Verdict::Stale
-        }
+        self.verdict_on(&entry.epoch, action_of(&entry.body))
     }
 
-    /// What becomes of the carried entry, as of the same entry in the source's own log.
+    /// Returns what becomes of the carried entry, as of the same entry in the source's own log.
     pub fn verdict_carried(&self, entry: &Carried) -> Verdict
         ensures { result ≡ verdict self.now (entry_of entry.now) }
     {
-        if is_empty_carried(&entry.body) {
+        self.verdict_on(&entry.epoch, carried_action_of(&entry.body))
+    }
+
+    fn verdict_on(&self, epoch: &Epoch, action: Action<'_>) -> Verdict
+        ensures { result ≡ verdict_on self.now epoch.now (body_for action.entry) }
+    {
+        if is_nothing(action) {
             Verdict::Empty
-        } else if self
-            .epoch
-            .matches(kind_of_carried(&entry.body), &entry.epoch)
-        {
-            self.fitting_verdict_carried(&entry.body)
+        } else if self.epoch.matches(kind_of(action), epoch) {
+            self.fitting_verdict(action)
         } else {
             Verdict::Stale
         }
     }
 
-    fn fitting_verdict(&self, body: &Body) -> Verdict
-        ensures { result ≡ fitting_verdict self.now.mode self.now.range self.now.peers body.now }
+    fn fitting_verdict(&self, action: Action<'_>) -> Verdict
+        ensures { result ≡ fitting_verdict self.now.mode self.now.range self.now.peers (body_for action.entry) }
     {
         match self.mode {
-            Mode::Merging { commit, .. } => merging_verdict(commit, body),
-            _ => self.open_verdict(body),
+            Mode::Merging { commit, .. } => merging_verdict(commit, action),
+            _ => self.open_verdict(action),
         }
     }
 
-    fn fitting_verdict_carried(&self, body: &CarriedBody) -> Verdict
-        requires { is_empty (body_of body.now) ≡ false }
-        ensures { result ≡ fitting_verdict self.now.mode self.now.range self.now.peers (body_of body.now) }
+    fn open_verdict(&self, action: Action<'_>) -> Verdict
+        ensures { result ≡ open_verdict self.now.range self.now.peers (body_for action.entry) }
     {
-        match (self.mode, body) {
-            (Mode::Merging { .. }, _) => Verdict::Merging,
-            (_, CarriedBody::Write(ops)) => write_verdict(&self.range, ops.as_slice()),
-            (_, _) => Verdict::Accept,
-        }
-    }
-
-    fn open_verdict(&self, body: &Body) -> Verdict
-        ensures { result ≡ open_verdict self.now.range self.now.peers body.now }
-    {
-        match body {
-            Body::Write(ops) => write_verdict(&self.range, ops.as_slice()),
-            Body::Split { keys, .. } => match self.range.first_bad_cut(keys.as_slice()) {
+        match action {
+            Action::Writes(ops) => write_verdict(&self.range, ops.as_slice()),
+            Action::Splits { keys, .. } => match self.range.first_bad_cut(keys.as_slice()) {
                 None => Verdict::Accept,
                 Some(place) => Verdict::BadSplit(place),
             },
-            Body::Conf { change } => {
-                if is_good_change(self.peers.as_slice(), *change) {
+            Action::Turns(turn) => self.turn_verdict(turn),
+            Action::Nothing | Action::Merges { .. } => Verdict::Accept,
+        }
+    }
+
+    fn turn_verdict(&self, turn: Turn) -> Verdict
+        ensures { result ≡ open_verdict self.now.range self.now.peers (turn_body turn) }
+    {
+        match turn {
+            Turn::Conf { change } => {
+                if is_good_change(self.peers.as_slice(), change) {
                     Verdict::Accept
                 } else {
                     Verdict::BadPeer
                 }
             }
-            Body::Rollback { .. } => Verdict::BadRollback,
-            Body::Empty | Body::Prepare { .. } | Body::Commit { .. } => Verdict::Accept,
+            Turn::Rollback { .. } => Verdict::BadRollback,
+            Turn::Prepare { .. } => Verdict::Accept,
         }
     }
 }
 
-fn is_empty(body: &Body) -> bool
-    ensures { result ≡ is_empty body.now }
+fn is_nothing(action: Action<'_>) -> bool
+    ensures { result ≡ is_empty (body_for action.entry) }
 {
-    match body {
-        Body::Empty => true,
+    match action {
+        Action::Nothing => true,
         _ => false,
     }
 }
 
-fn is_empty_carried(body: &CarriedBody) -> bool
-    ensures { result ≡ is_empty (body_of body.now) }
+fn kind_of(action: Action<'_>) -> Kind
+    ensures { result ≡ kind_of (body_for action.entry) }
 {
-    match body {
-        CarriedBody::Empty => true,
-        _ => false,
+    match action {
+        Action::Nothing => Kind::Empty,
+        Action::Writes(_) => Kind::Write,
+        Action::Splits { .. } => Kind::Split,
+        Action::Merges { .. } => Kind::Commit,
+        Action::Turns(Turn::Prepare { .. }) => Kind::Prepare,
+        Action::Turns(Turn::Rollback { .. }) => Kind::Rollback,
+        Action::Turns(Turn::Conf { .. }) => Kind::Conf,
     }
 }
 
-fn kind_of(body: &Body) -> Kind
-    ensures { result ≡ kind_of body.now }
+fn merging_verdict(commit: u64, action: Action<'_>) -> Verdict
+    ensures { result ≡ merging_verdict commit (body_for action.entry) }
 {
-    match body {
-        Body::Empty => Kind::Empty,
-        Body::Write(_) => Kind::Write,
-        Body::Split { .. } => Kind::Split,
-        Body::Prepare { .. } => Kind::Prepare,
-        Body::Commit { .. } => Kind::Commit,
-        Body::Rollback { .. } => Kind::Rollback,
-        Body::Conf { .. } => Kind::Conf,
-    }
-}
-
-fn kind_of_carried(body: &CarriedBody) -> Kind
-    ensures { result ≡ kind_of (body_of body.now) }
-{
-    match body {
-        CarriedBody::Empty => Kind::Empty,
-        CarriedBody::Write(_) => Kind::Write,
-        CarriedBody::Prepare { .. } => Kind::Prepare,
-    }
-}
-
-fn merging_verdict(commit: u64, body: &Body) -> Verdict
-    ensures { result ≡ merging_verdict commit body.now }
-{
-    match body {
-        Body::Rollback { commit: other } => {
-            if *other == commit {
+    match action {
+        Action::Turns(Turn::Rollback { commit: other }) => {
+            if other == commit {
                 Verdict::Accept
             } else {
                 Verdict::BadRollback

@@ -41,7 +41,7 @@ module _ {F M P : Type 0} {d : fsm.Ghosts F M P} {n : Ghosts F P} {k : Ghosts M 
   abbrev pub AreDesksOf : (F → P) → List (Mailbox F M P k) → List (Station F M P d n k) → Type 0
   AreDesksOf name_of bs ss = Paired (IsStationOf name_of) bs ss
 
-  -- and has made no step and pushed nothing
+  -- the stations are at these mailboxes, and each has made no step and pushed nothing
   abbrev pub AreNewDesks : (F → P) → List (Mailbox F M P k) → List (Station F M P d n k) → Type 0
   AreNewDesks name_of bs ss = Paired (IsNewStation name_of) bs ss
 

@@ -5,6 +5,7 @@ use lib.ListN.{get_elem?}
 use Rattle.rs_mailbox.specs.declared.ticket.Ticket.{Ticket}
 use Rattle.rs_router.specs.declared.queue_rule.Line.{Line}
 
+-- a scheduler's line: whether it is new, its bound, and the addresses pushed and popped
 abbrev pub line : Bool → ℕ → List ℕ → List ℕ → Line
 line fresh bound pushed popped = record { fresh = fresh; bound = bound; pushed = pushed; popped = popped }
 
@@ -12,12 +13,15 @@ line fresh bound pushed popped = record { fresh = fresh; bound = bound; pushed =
 abbrev pub founder : ℕ → Line → Line
 founder bound v = line false bound v.pushed v.popped
 
+-- the line of a new member, which has pushed and popped nothing
 abbrev pub member : ℕ → Line
 member bound = line false bound [] []
 
+-- the line after an address was pushed
 abbrev pub pushes : Line → ℕ → Line
 pushes v address = record v { pushed = v.pushed ++ address ∷ [] }
 
+-- the line after an address was popped
 abbrev pub pops : Line → ℕ → Line
 pops v address = record v { popped = v.popped ++ address ∷ [] }
 

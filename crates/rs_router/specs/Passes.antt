@@ -17,6 +17,7 @@ module _ {M A : Type 0} where
 abbrev pub id_with : SegId Global → ℕ → SegId Global × ℕ
 id_with queue addresses = (queue, addresses)
 
+-- the id of a scheduler's pass: its queue and its addresses
 abbrev pub id_of : SchedulerPass → SegId Global × ℕ
 id_of p = (record { web = p.pass.web; heap = p.pass.heap }, p.addresses)
 

@@ -29,14 +29,15 @@ abbrev pub Grows : ℕ → ℕ → List ℕ → List ℕ → Type 0
 Grows address found before after = ((found ≡ 1) × (after ≡ before ++ address ∷ [])) ⊎ ((found ≢ 1) × (after ≡ before))
 
 module _ {N P M : Type 0} where
-  -- of the views before, the message, the refusal and the views after. A message without its ticket was sent as ever, and then its mailbox was closed and the ticket spent, in this order
+  -- The refusal of a message, by the views before and after. A message without its ticket was sent as ever, and then
+  -- its mailbox was closed and the ticket spent, in this order.
   abbrev pub Repels : View N → Trail P M → M → RouteError M → View N → Trail P M → Type 0
   Repels v t x (Closed y) w u = (y ≡ x) × (w ≡ looked v 2) × (u ≡ t)
   Repels v t x (NoMemory (Some y)) w u = (y ≡ x) × ((word : ℕ) × (word ≢ 2) × (w ≡ looked v word)) × (u ≡ t)
   Repels v t x (NoMemory None) w u = ((word : ℕ) × (before : ℕ) × (word ≢ 2) × Abandons (told v word before 1) w) × (u ≡ sends t x)
   Repels v t x (Spent y) w u = (y ≡ x) × ((word : ℕ) × (word ≢ 2) × (w ≡ looked v word)) × (u ≡ t) × (2 ^ 50 ≤ v.stance.announced)
 
-  -- of the address, the views and the pass's list before, the message, the answer, and the views and the list after
+  -- the sending of a message to the address, by its answer, and by the views and the pass's list before and after
   abbrev pub Routes : ℕ → View N → Trail P M → List ℕ → M → Result (Unit {0}) (RouteError M) → View N → Trail P M → List ℕ → Type 0
   Routes address v t ps x (Ok _) w u qs = (word : ℕ) × (before : ℕ) × (found : ℕ) × (word ≢ 2) × (w ≡ told v word before found) × (u ≡ sends t x) × Grows address found ps qs
   Routes address v t ps x (Err e) w u qs = Repels v t x e w u × (qs ≡ ps)

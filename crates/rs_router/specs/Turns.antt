@@ -20,10 +20,11 @@ is_turning Retake = true
 is_turning Close = true
 is_turning Reschedule = true
 
+-- the steps that turn the machine's word
 abbrev pub turning : List Deed → List Deed
 turning deeds = filter (λ d. is_turning d.kind) deeds
 
 module _ {F M P : Type 0} {d : fsm.Ghosts F M P} {n : Ghosts F P} {k : Ghosts M P} where
-  -- of each station, in the order of the addresses
+  -- the turning steps of each station, in the order of the addresses
   abbrev pub turn_steps : List (Station F M P d n k) → List (List Deed)
   turn_steps ss = map (λ s. turning (view s).deeds) ss

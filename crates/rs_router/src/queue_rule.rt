@@ -7,11 +7,11 @@ use std::alloc::Global;
 use std::collections::LinkedList;
 use std::marker::{Brand, PhantomData};
 
-/// What a pass of the ticket queue knows, for contracts alone: no value of it is made.
+/// The knowledge of a pass of the ticket queue, for contracts alone: no value of it is made.
 pub struct Line {
     /// The first pass, before it has made another.
     pub fresh: bool,
-    /// What all addresses are below.
+    /// The bound that all addresses are below.
     pub bound: u64,
     /// The addresses that it pushed, and those that it popped, in order.
     pub pushed: LinkedList<u32>,
@@ -56,7 +56,7 @@ impl Lesson<Ticket, Line> for Popped {
     ghost fact = { λ v items. Saw items v };
 }
 
-/// What all addresses of a queue are below. Each call that opens one picks it.
+/// The bound that all addresses of a queue are below. Each call that opens one picks it.
 pub trait Bound {
     ghost bound: { ℕ };
 }

@@ -1,6 +1,6 @@
 use thiserror::Error;
 
-/// Why a message was not sent.
+/// The error of a message that wasn't handed on whole.
 #[derive(Debug, Drop, Error)]
 pub enum RouteError<M> {
     /// The mailbox is closed. Nothing was pushed.

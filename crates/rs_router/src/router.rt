@@ -65,19 +65,21 @@ fn send_at<F: Fsm, S: Scheduler, R: Wait>(
 }
 
 impl<F: Fsm, S: Scheduler> Router<F, S> {
-    /// The number of mailboxes. Addresses are below it.
+    /// Returns the number of mailboxes. Addresses are below it.
     pub fn count(&self) -> u32
         ensures { result ≡ length self.now.mailboxes.items }
     {
         self.count
     }
 
+    /// Returns the scheduler that tickets are pushed to.
     pub fn scheduler(&self) -> &S
         ensures { result.now ≡ self.now.scheduler }
     {
         &self.scheduler
     }
 
+    /// Returns the mailbox of the machine at the address.
     pub fn mailbox(&self, address: u32) -> &Mailbox<F>
         requires below { address < length self.now.mailboxes.items }
         ensures mailbox { result.now ≡ slice_index_or self.now.mailboxes.items address result.now }

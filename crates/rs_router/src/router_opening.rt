@@ -94,8 +94,8 @@ fn open_all<F: Fsm>(
 }
 
 impl<F: Fsm, S: Scheduler> Router<F, S> {
-    /// A router with a mailbox for each machine, at the machine's place in the list, and for each worker desks, whose
-    /// stations have done nothing yet. The scheduler has as many addresses as there are machines.
+    /// Returns a router with a mailbox for each machine, at the machine's place in the list, and for each worker
+    /// desks, whose stations have done nothing yet. The scheduler has as many addresses as there are machines.
     ///
     /// More than 2^32 - 1 machines are refused as want of memory.
     pub fn new(

@@ -12,16 +12,16 @@ pub struct Refused {
     pub ticket: Ticket,
 }
 
-/// It takes tickets and hands them out again, each to one of its passes. A worker has a pass.
+/// A scheduler takes tickets and hands them out again, each to one of its passes. A worker has a pass.
 ///
 /// It has a number of addresses, and a ticket's address is below it. A pass has a list of the addresses pushed through
 /// it, and a list of those popped through it, of which clauses say how often each address stands in it, and not in what
 /// order. No clause says that a ticket that was pushed is ever popped.
-pub trait Scheduler: Sync + Drop {
+pub trait Scheduler: Drop {
     /// A worker's right to push and to pop.
-    type Pass: Send + Drop;
+    type Pass: Drop;
 
-    /// What a scheduler and its passes have in common, and no other scheduler has.
+    /// The identity that a scheduler and its passes share, and no other scheduler has.
     type Id;
 
     /// The number of addresses.
@@ -39,7 +39,7 @@ pub trait Scheduler: Sync + Drop {
     /// The addresses popped through the pass, in any order.
     ghost popped: { Self.Pass → List ℕ };
 
-    /// How many pops through the pass answered None.
+    /// The number of pops through the pass that answered None.
     ghost empties: { Self.Pass → ℕ };
 
     /// At a step of a pop through this pass there was no ticket: each queue was empty at a step.
@@ -54,8 +54,8 @@ pub trait Scheduler: Sync + Drop {
         ensures popped { SameBag (popped pass.old) (popped pass.new) }
         ensures empties { empties pass.new ≡ empties pass.old };
 
-    /// A ticket. None only where the queue was empty at a step of the call; then the count of empty pops rises, or
-    /// stands at its last value.
+    /// Returns a ticket. None only where the queue was empty at a step of the call; then the count of empty pops
+    /// rises, or stands at its last value.
     fn pop<R: Wait>(&self, rt: &R, pass: &mut Self::Pass) -> Option<Ticket>
         requires pass { id self.now ≡ pass_id pass.old }
         ensures pass { id self.now ≡ pass_id pass.new }

@@ -5,7 +5,7 @@ use crate::rows::Rows;
 
 /// Copies that want memory.
 pub trait TryClone {
-    /// An equal value. Where memory runs out nothing has changed.
+    /// Returns an equal value. Where memory runs out nothing has changed.
     fn try_clone(&self) -> Result<Self, NoMemory>
     where
         Self: Sized,

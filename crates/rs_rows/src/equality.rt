@@ -8,7 +8,7 @@ pub trait Same {
     // The test that is computed.
     ghost equals: { Self → Self → Bool };
 
-    /// Whether the two values are equal: exactly, and as the test computes.
+    /// Returns whether the two values are equal: exactly, and as the test computes.
     fn is_same(&self, other: &Self) -> bool
         ensures test { result ≡ equals self.now other.now }
         ensures exact { IsTrue result ↔ (self.now ≡ other.now) };

@@ -22,7 +22,7 @@ impl<T> Model for Rows<T> {
 }
 
 impl<T> Rows<T> {
-    /// The empty list. It takes no memory, and keeps the allocator for its pushes.
+    /// Returns the empty list. It takes no memory, and keeps the allocator for its pushes.
     pub fn new(alloc: Global) -> Rows<T>
         ensures { result ≡ [] }
     {
@@ -31,9 +31,9 @@ impl<T> Rows<T> {
         }
     }
 
-    /// The empty list, with room for so many elements where there is memory for them.
+    /// Returns the empty list, with room for `room` elements if there is memory for them.
     ///
-    /// Where there is none the list is empty all the same, and a push asks again.
+    /// Without memory the list is empty too, and a push asks for memory again.
     pub fn with_room(alloc: Global, room: usize) -> Rows<T>
         ensures { result ≡ [] }
     {
@@ -42,44 +42,47 @@ impl<T> Rows<T> {
         Rows { items }
     }
 
-    /// The list of these elements. It takes no memory.
+    /// Returns the list of these elements. It takes no memory.
     pub fn from_vec(items: Vec<T>) -> Rows<T>
         ensures { result ≡ items.items }
     {
         Rows { items }
     }
 
-    /// The allocator that pushes take memory from.
+    /// Returns the allocator that pushes take memory from.
     pub fn allocator(&self) -> Global {
         *self.items.allocator()
     }
 
+    /// Returns the number of elements.
     pub fn len(&self) -> usize
         ensures { result ≡ length self.now }
     {
         self.items.len()
     }
 
+    /// Returns whether the list has no elements.
     pub fn is_empty(&self) -> bool
         ensures { IsTrue result ↔ (length self.now ≡ 0) }
     {
         self.items.is_empty()
     }
 
-    /// The element at this place, counted from 0; none exactly where the place isn't below the length.
+    /// Returns the element at this place, counted from 0; `None` exactly where the place isn't below the length.
     pub fn get(&self, place: usize) -> Option<&T>
         ensures { MatchOption result (length self.now ≤ place) (λ x. slice_get self.now place ≡ Some x.now) }
     {
         self.items.get(place)
     }
 
+    /// Returns the elements as a slice.
     pub fn as_slice(&self) -> &[T]
         ensures { result.now ≡ self.now }
     {
         self.items.as_slice()
     }
 
-    /// The elements, without a copy.
+    /// Returns the elements, without a copy.
     pub fn into_vec(self) -> Vec<T>
         ensures { result.items ≡ self }
     {

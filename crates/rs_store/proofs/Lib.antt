@@ -1,6 +1,5 @@
 pub mod AwaitLaws
 pub mod CarrierSteps
-pub mod Effects
 pub mod EndLaws
 pub mod Folds
 pub mod FormLaws

@@ -1,6 +1,6 @@
 -- One step of the loops over lists, and over region ids.
 use Rattle.std.proofs.Common.{◌≡◌, ℕ, suc, ◌+◌, ◌<◌, List, [], ◌∷◌, ◌++◌, length, get_or, take, take-suc, drop, refl, ap, sym, ◌∙◌, add-one, drop-cons, arith}
-use Rattle.std.specs.Prelude.{Bool, true, false, Option, Some, None}
+use Rattle.std.specs.Prelude.{Bool, true, Option, Some, None}
 use Rattle.std.specs.List.{find}
 use Rattle.rs_entry.specs.declared.entry.Entry.{Entry}
 use Rattle.rs_entry.specs.declared.input.Store.{Store}
@@ -13,15 +13,8 @@ take_here xs i x h e = let one : i + 1 ≡ suc i = omega arith in ap (λ n. take
 at_drop : (xs : List ℕ) (i : ℕ) → i < length xs → drop i xs ≡ get_or xs i 0 ∷ drop (i + 1) xs
 at_drop xs i h = rw (add-one, drop-cons xs i 0)
 
-find_here : (p : ℕ → Bool) (x : ℕ) (xs : List ℕ) (b : Bool) → p x ≡ b → b ≡ false → find p (x ∷ xs) ≡ find p xs
-find_here p x xs true e h = absurd cc
-find_here p x xs false e h = rw e refl
-
 find_this : (p : ℕ → Bool) (x : ℕ) (xs : List ℕ) → p x ≡ true → find p (x ∷ xs) ≡ Some x
 find_this p x xs e = rw e refl
-
-pub find_no : (p : ℕ → Bool) (xs : List ℕ) (i : ℕ) → i < length xs → p (get_or xs i 0) ≡ false → find p (drop i xs) ≡ find p (drop (i + 1) xs)
-find_no p xs i h e = ap (find p) (at_drop xs i h) ∙ find_here p (get_or xs i 0) (drop (i + 1) xs) (p (get_or xs i 0)) refl e
 
 pub find_yes : (p : ℕ → Bool) (xs : List ℕ) (i : ℕ) → i < length xs → p (get_or xs i 0) ≡ true → find p (drop i xs) ≡ Some (get_or xs i 0)
 find_yes p xs i h e = ap (find p) (at_drop xs i h) ∙ find_this p (get_or xs i 0) (drop (i + 1) xs) e

@@ -1,5 +1,5 @@
 -- The numbers of a run stay small: each step raises them by 64 at most.
-use Rattle.std.proofs.Common.{◌≡◌, ℕ, ◌+◌, ◌≤◌, ◌<◌, ◌^◌, ◌-◌, refl, sym, ◌∙◌, subst, List, [], ◌∷◌, length, arith}
+use Rattle.std.proofs.Common.{◌≡◌, ℕ, ◌+◌, ◌≤◌, ◌-◌, refl, sym, ◌∙◌, subst, List, [], ◌∷◌, length, arith}
 use Rattle.std.specs.Prelude.{Bool, true, false, Option, Some, None, ◌==◌, ◌&&◌, if◌then◌else◌, map}
 use Rattle.std.specs.List.{find, zip, AllByRecursion}
 use Rattle.std.proofs.lemmas.Bool.{eqb-true}
@@ -20,7 +20,7 @@ use Rattle.rs_region.specs.declared.verdict.Verdict.TheVariants as verdicts
 use Rattle.rs_store.specs.declared.regions.Made.{Made}
 use Rattle.rs_store.specs.declared.regions.Origin.{Origin}
 use Rattle.rs_store.specs.Stores.{ByRegion, Went, Broke, with_region, with_regions, no_regions, opening, own, ids_of, own_next, first_some, entry_at, carried_at, carried_next, stands, Merge, next, is_paused, is_prepared_for, as_merged, accept, commit_with, step_by, step_with, step_in, step, least_ready, advance, advance_by, Applied, passed, reshaped, born, is_removal_of}
-use Rattle.rs_store.specs.Runs.{Run, Moved, bare, forget, IsNear, IsWithin, IsAllLow, IsFormed, IsFormedStore}
+use Rattle.rs_store.specs.Runs.{Run, Moved, bare, forget, IsNear, IsWithin, IsFormed, IsFormedStore}
 use Rattle.rs_store.proofs.Verdicts.{formed_carried}
 
 near_more : (b c id : ℕ) (r : Made) → b ≤ c → IsNear b id r → IsNear c id r
@@ -168,8 +168,3 @@ module _ (b : ℕ) (five : 5 ≤ b) (store : Store) (formed : IsFormedStore stor
     go : (o : Option ℕ) → Leads (b + 64) (forget (advance_by store (bare f) o))
     go None = stay
     go (Some id) = step_leads id
-
-pub low_of : (b : ℕ) (f : ByRegion) → b < 2 ^ 62 → IsWithin b f → IsAllLow f
-low_of b f h w id r e =
-    let n = w id r e in
-    record { named = n.named; version = omega (arith, n.version); conf_ver = omega (arith, n.conf_ver); applied = omega (arith, n.applied) }

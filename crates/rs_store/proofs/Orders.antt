@@ -1,5 +1,5 @@
 -- The canonical order, seen by its regions alone.
-use Rattle.std.proofs.Common.{◌≡◌, ℕ, ◌+◌, suc, zero, refl, sym, ap, ◌∙◌, List, [], ◌∷◌, arith}
+use Rattle.std.proofs.Common.{◌≡◌, ℕ, ◌+◌, suc, zero, refl, ap, ◌∙◌, List, [], ◌∷◌, arith}
 use Rattle.std.specs.Prelude.{Bool, true, false, Option, Some, None, ◌&&◌, if◌then◌else◌}
 use Rattle.std.specs.List.{find}
 use mathlib.Core.Path.{fun_ext}
@@ -14,7 +14,7 @@ use Rattle.rs_key.specs.Ranges.{is_next_to}
 use Rattle.rs_store.specs.declared.regions.Made.{Made}
 use Rattle.rs_store.specs.declared.fault.StepFault.{StepFault}
 use Rattle.rs_store.specs.Stores.{ByRegion, Applied, Stepped, Went, Broke, own, ids_of, stands, carried_at, carried_next, first_some, next, is_ready, ready_in, ready_with, goes_on, is_paused, is_prepared_for, least_ready, accept, commit_with, step_by, step_with, step_in, step, advance, advance_by, then_advance, after}
-use Rattle.rs_store.specs.Runs.{Moved, Failed, bare, forget, told}
+use Rattle.rs_store.specs.Runs.{Moved, Failed, bare, forget}
 
 -- what is read of a store's state are its regions alone
 
@@ -109,13 +109,3 @@ stays store n x h (suc k) =
       go : (t : Stepped) → forget t ≡ Failed x → forget (then_advance store t) ≡ Failed x
       go (Went g) h = absurd cc
       go (Broke fault) h = h
-
--- the step of the least region that is ready is the canonical order's next
-pub goes_on_to : (store : Store) (n : ℕ) (f g : ByRegion) (id : ℕ) (o : Option StepFault) (h : ByRegion) → forget (after store n) ≡ Moved f → Some id ≡ least_ready store (bare f) → g ≡ f
-    → forget (step store (bare g) id) ≡ told o h → forget (after store (n + 1)) ≡ told o h
-goes_on_to store n f g id o h here least same went =
-    let one : n + 1 ≡ suc n = omega arith in
-    ap (λ m. forget (after store m)) one
-    ∙ (after_next store n f here
-    ∙ (ap (λ x. forget (advance_by store (bare f) x)) (sym least)
-    ∙ (ap (λ k. forget (step store (bare k) id)) (sym same) ∙ went)))

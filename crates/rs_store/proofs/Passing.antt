@@ -70,7 +70,7 @@ module _ (store : Store) (awaited : Places) (f : ByRegion) (id : ℕ) (may : May
 
   -- the step
   pub pass_step : forget (step store (bare f) id) ≡ Moved (with_region f id (passed may.made))
-  pass_step = step_passes store f id may.made may.entry may.here line may.leaves
+  pass_step = ap forget (step_passes store f id may.made may.entry may.here line may.leaves)
 
   quiet : (r : Made) (e : Entry) → f id ≡ Some r → next store (bare f) id r ≡ Some e → is_quiet_for r.state e ≡ true
   quiet r e h n =

@@ -1,6 +1,6 @@
 -- What the verdicts say of regions and entries.
-use Rattle.std.proofs.Common.{◌≡◌, ℕ, ◌+◌, refl, sym, ap, ◌∙◌, subst, List}
-use Rattle.std.specs.Prelude.{Bool, true, false, Option, Some, None, Result, Ok, Err, IfOk, ◌==◌, ◌&&◌, if◌then◌else◌}
+use Rattle.std.proofs.Common.{◌≡◌, ℕ, ◌+◌, refl, sym, ap, ◌∙◌, List}
+use Rattle.std.specs.Prelude.{Bool, true, false, Option, Some, None, Ok, ◌&&◌, if◌then◌else◌}
 use Rattle.rs_key.specs.Ranges.{Bounds, first_bad_cut, is_next_to}
 use Rattle.rs_key.specs.Epochs.{fits}
 use Rattle.rs_key.specs.declared.epoch.Epoch.{Epoch}
@@ -17,17 +17,21 @@ use Rattle.rs_entry.specs.declared.outcome.Mode.{Mode}
 use Rattle.rs_entry.specs.declared.outcome.Mode.TheVariants as mode
 use Rattle.rs_entry.specs.Entries.{body_of}
 use Rattle.rs_region.specs.Verdicts.{verdict, verdict_on, fitting_verdict, split_verdict}
+use Rattle.rs_region.specs.Actions.{turn_body, turned_on}
 use Rattle.rs_region.specs.Reshapings.{committed}
+use Rattle.rs_region.specs.declared.action.Turn.{Turn}
+use Rattle.rs_region.specs.declared.action.Turn.TheVariants as turn
 use Rattle.rs_region.specs.declared.state.RegionState.{RegionState}
 use Rattle.rs_region.specs.declared.verdict.Verdict.{Verdict}
 use Rattle.rs_region.specs.declared.verdict.Verdict.TheVariants as verdicts
+use Rattle.rs_store.specs.declared.next_entry.NextEntry.{NextEntry}
+use Rattle.rs_store.specs.declared.effect.Effect.{Effect}
 use Rattle.rs_store.specs.declared.regions.Made.{Made}
-use Rattle.rs_rows.specs.declared.no_memory.NoMemory.{NoMemory}
-use Rattle.rs_store.specs.declared.fault.StepFault.{StepFault}
 use Rattle.rs_store.specs.declared.fault.StepFault.TheVariants as faults
-use Rattle.rs_store.specs.Stores.{ByRegion, with_region, without, is_paused, own, as_merged, is_prepared_for, accept, is_accept, step_by, commit_with, commit_in, step, step_in, step_with, next, passed, reshaped, merge_in, merge_of}
-use Rattle.rs_store.proofs.Updates.{beside, put_two, put_back}
-use Rattle.rs_store.specs.Runs.{Run, told, bare, forget, Moved, Failed, IsFormed, is_bad, passes}
+use Rattle.rs_store.specs.Stores.{ByRegion, Stepped, Went, Broke, with_region, without, is_paused, own, as_merged, is_prepared_for, accept, is_accept, step_by, commit_with, next, step, step_in, step_with, passed, reshaped, merge_in, merge_of}
+use Rattle.rs_store.proofs.Updates.{beside, put_over, put_two}
+use Rattle.rs_store.specs.Runs.{bare, line_entry, IsFormed, passes}
+use Rattle.rs_store.specs.Walks.{came, done, gained, passes_to, IsNextEntry}
 
 no_bad_cut : (o : Option ℕ) → split_verdict o ≡ verdicts.Accept → o ≡ None
 no_bad_cut None h = refl
@@ -71,95 +75,67 @@ accept_is (verdicts.BadSplit p) h = absurd cc
 accept_is verdicts.BadPeer h = absurd cc
 accept_is verdicts.BadRollback h = absurd cc
 
--- an entry that is refused changes the applied index alone
-pub refused : (v : Verdict) → is_accept v ≡ false → is_bad v ≡ false → (store : Store) (f : ByRegion) (id : ℕ) (r : Made) (e : Entry)
-    → forget (step_by v store (bare f) id r e) ≡ Moved (with_region f id (passed r))
-refused verdicts.Accept h b store f id r e = absurd cc
-refused verdicts.Empty h b store f id r e = refl
-refused verdicts.Stale h b store f id r e = refl
-refused verdicts.Merging h b store f id r e = refl
-refused (verdicts.Outside p) h b store f id r e = refl
-refused (verdicts.BadSplit p) h b store f id r e = refl
-refused verdicts.BadPeer h b store f id r e = refl
-refused verdicts.BadRollback h b store f id r e = absurd cc
+-- an entry that reshaped its region is answered with the region's version
+pub answer : (f g : ByRegion) (id index v w : ℕ) (t : Effect) → g ≡ f → w ≡ v → ((h : ByRegion) → gained h t ≡ done h id index w) → Went (done f id index v) ≡ came g (Ok t)
+answer f g id index v w t same by e = ap Went (ap (λ h. done h id index v) (sym same) ∙ (ap (done g id index) (sym by) ∙ sym (e g)))
 
-pub broken : (v : Verdict) → is_bad v ≡ true → (store : Store) (f : ByRegion) (id : ℕ) (r : Made) (e : Entry)
-    → forget (step_by v store (bare f) id r e) ≡ Failed (faults.BadRollback id (r.applied + 1) (commit_in e.body) r.state.mode)
-broken verdicts.Accept b store f id r e = absurd cc
-broken verdicts.Empty b store f id r e = absurd cc
-broken verdicts.Stale b store f id r e = absurd cc
-broken verdicts.Merging b store f id r e = absurd cc
-broken (verdicts.Outside p) b store f id r e = absurd cc
-broken (verdicts.BadSplit p) b store f id r e = absurd cc
-broken verdicts.BadPeer b store f id r e = absurd cc
-broken verdicts.BadRollback b store f id r e = refl
-
--- a source that isn't there, with the region itself out
-pub no_source : (f : ByRegion) (store : Store) (id source commit : ℕ) (r : Made) (b : Body) → f source ≡ None → is_prepared_for id commit r.state.mode ≡ false
-    → forget (commit_with store (bare (with_region f id r)) id r b source commit (with_region f id r source)) ≡ Failed (faults.NotPrepared id (r.applied + 1) source commit)
-no_source f store id source commit r b none h = go (source == id) where
-  at_self : (d : Bool) → d ≡ false → forget (commit_with store (bare (with_region f id r)) id r b source commit (Some r)) ≡ Failed (faults.NotPrepared id (r.applied + 1) source commit)
-  at_self d e = rw h refl
-
-  go : (d : Bool) → forget (commit_with store (bare (with_region f id r)) id r b source commit (if d then Some r else f source)) ≡ Failed (faults.NotPrepared id (r.applied + 1) source commit)
-  go true = at_self false refl
-  go false = rw none refl
+-- a region that is out, turned and put back
+pub turns : (store : Store) (f : ByRegion) (id : ℕ) (r : Made) (t : Turn)
+    → accept store (bare (with_region f id r)) id r (turn_body t) ≡ Went (done (with_region f id (reshaped r (turned_on store.id (r.applied + 1) t r.state))) id (r.applied + 1) (turned_on store.id (r.applied + 1) t r.state).epoch.version)
+turns store f id r t = go t ∙ ap (λ g. Went (done g id (r.applied + 1) (turned_on store.id (r.applied + 1) t r.state).epoch.version)) (put_over f id r (reshaped r (turned_on store.id (r.applied + 1) t r.state))) where
+  go : (t : Turn) → accept store (bare (with_region f id r)) id r (turn_body t)
+      ≡ Went (done (with_region (with_region f id r) id (reshaped r (turned_on store.id (r.applied + 1) t r.state))) id (r.applied + 1) (turned_on store.id (r.applied + 1) t r.state).epoch.version)
+  go (turn.Prepare target) = refl
+  go (turn.Rollback commit) = refl
+  go (turn.Conf c) = refl
 
 module _ (f : ByRegion) (store : Store) (id source commit : ℕ) (r q : Made) (out : f id ≡ None) (there : f source ≡ Some q) where
-  abbrev pub tried : Body → Run
-  tried b = forget (commit_with store (bare (with_region f id r)) id r b source commit (with_region f id r source))
+  abbrev pub tried : Body → Stepped
+  tried b = commit_with store (bare (with_region f id r)) id r b source commit (with_region f id r source)
 
-  tried_is : (b : Body) → tried b ≡ forget (commit_with store (bare (with_region f id r)) id r b source commit (Some q))
-  tried_is b = ap (λ o. forget (commit_with store (bare (with_region f id r)) id r b source commit o)) (beside f id source r q out there)
+  tried_is : (b : Body) → tried b ≡ commit_with store (bare (with_region f id r)) id r b source commit (Some q)
+  tried_is b = ap (commit_with store (bare (with_region f id r)) id r b source commit) (beside f id source r q out there)
 
-  pub not_prepared : (is_prepared_for id commit q.state.mode && is_paused (own store source) q.state) ≡ false → (b : Body) → tried b ≡ Failed (faults.NotPrepared id (r.applied + 1) source commit)
+  pub not_prepared : (is_prepared_for id commit q.state.mode && is_paused (own store source) q.state) ≡ false → (b : Body) → tried b ≡ Broke (faults.NotPrepared id (r.applied + 1) source commit)
   not_prepared h b = tried_is b ∙ rw h refl
 
   pub not_next : (is_prepared_for id commit q.state.mode && is_paused (own store source) q.state) ≡ true → is_next_to r.state.range q.state.range ≡ false
-      → (b : Body) → tried b ≡ Failed (faults.NotNext id (r.applied + 1) source commit r.state.range q.state.range)
+      → (b : Body) → tried b ≡ Broke (faults.NotNext id (r.applied + 1) source commit r.state.range q.state.range)
   not_next h n b = tried_is b ∙ rw (h, n) refl
 
   pub joined : (is_prepared_for id commit q.state.mode && is_paused (own store source) q.state) ≡ true → is_next_to r.state.range q.state.range ≡ true
-      → (b : Body) → tried b ≡ Moved (with_region (with_region (without f source) source (as_merged q id)) id (reshaped r (committed r.state q.state)))
-  joined h n b = tried_is b ∙ (rw (h, n) (ap Moved (put_two f id source r (as_merged q id) (reshaped r (committed r.state q.state)))))
+      → (b : Body) → tried b ≡ Went (done (with_region (with_region (without f source) source (as_merged q id)) id (reshaped r (committed r.state q.state))) id (r.applied + 1) (committed r.state q.state).epoch.version)
+  joined h n b = tried_is b ∙ (rw (h, n) (ap (λ g. Went (done g id (r.applied + 1) (committed r.state q.state).epoch.version)) (put_two f id source r (as_merged q id) (reshaped r (committed r.state q.state)))))
 
-pub told_so : (r : Result (Option StepFault) NoMemory) (f : ByRegion) (m : Run) (x : Body → Run) → IfOk r (λ fault. told fault f ≡ m) → ((b : Body) → x b ≡ m) → IfOk r (λ fault. (b : Body) → x b ≡ told fault f)
-told_so (Ok fault) f m x h k = λ b. k b ∙ sym h
-told_so (Err e) f m x h k = tt
+-- the step of a region whose next entry is known
+step_known : (store : Store) (f : ByRegion) (id : ℕ) (r : Made) (e : Entry) → f id ≡ Some r → next store (bare f) id r ≡ Some e → step store (bare f) id ≡ step_by (verdict r.state e) store (bare f) id r e
+step_known store f id r e here next = ap (step_in store (bare f) id) here ∙ ap (step_with store (bare f) id r) next
 
--- a step of a region that was found, with its next entry
-pub step_found : (store : Store) (f : ByRegion) (id : ℕ) (found made : Made) (e : Entry) → f id ≡ Some found → f id ≡ Some made → next store (bare f) id found ≡ Some e
-    → forget (step store (bare f) id) ≡ forget (step_by (verdict made.state e) store (bare (with_region (without f id) id made)) id made e)
-step_found store f id found made e h k n =
-    let same : found ≡ made = cc in
-    ap (λ o. forget (step_in store (bare f) id o)) k
-    ∙ (ap (λ o. forget (step_with store (bare f) id made o)) (subst (λ (x : Made). next store (bare f) id x ≡ Some e) same n)
-    ∙ ap (λ g. forget (step_by (verdict made.state e) store (bare g) id made e)) (sym (put_back f id made k)))
+pub step_is : (store : Store) (f : ByRegion) (id : ℕ) (c : NextEntry) (k : IsNextEntry store f id c) → step store (bare f) id ≡ step_by c.verdict store (bare f) id k.made (line_entry c.line)
+step_is store f id c k =
+    step_known store f id k.made (line_entry c.line) k.here k.next ∙ ap (λ v. step_by v store (bare f) id k.made (line_entry c.line)) (sym k.verdict)
 
-passes_by : (v : Verdict) (b : Body) → passes v b ≡ true → (store : Store) (f : ByRegion) (id : ℕ) (r : Made) (e : Entry) → e.body ≡ b
-    → forget (step_by v store (bare f) id r e) ≡ Moved (with_region f id (passed r))
-passes_by verdicts.Accept body.Empty p store f id r e h = ap (λ z. forget (accept store (bare f) id r z)) h
-passes_by verdicts.Accept (body.Write ops) p store f id r e h = ap (λ z. forget (accept store (bare f) id r z)) h
-passes_by verdicts.Accept (body.Split side ids keys) p store f id r e h = absurd cc
-passes_by verdicts.Accept (body.Prepare target) p store f id r e h = absurd cc
-passes_by verdicts.Accept (body.Commit source commit carried) p store f id r e h = absurd cc
-passes_by verdicts.Accept (body.Rollback commit) p store f id r e h = absurd cc
-passes_by verdicts.Accept (body.Conf c) p store f id r e h = absurd cc
-passes_by verdicts.Empty b p store f id r e h = refl
-passes_by verdicts.Stale b p store f id r e h = refl
-passes_by verdicts.Merging b p store f id r e h = refl
-passes_by (verdicts.Outside place) b p store f id r e h = refl
-passes_by (verdicts.BadSplit place) b p store f id r e h = refl
-passes_by verdicts.BadPeer b p store f id r e h = refl
-passes_by verdicts.BadRollback b p store f id r e h = absurd cc
+passes_by : (v : Verdict) (b : Body) → passes v b ≡ true → (store : Store) (f : ByRegion) (id : ℕ) (r : Made) (e : Entry) → e.body ≡ b → v ≡ verdict r.state e
+    → step_by v store (bare f) id r e ≡ Went (passes_to (with_region f id (passed r)) id r v b)
+passes_by verdicts.Accept body.Empty p store f id r e h w = let empty : verdict_on r.state e.epoch e.body ≡ verdicts.Empty = ap (verdict_on r.state e.epoch) h in absurd cc
+passes_by verdicts.Accept (body.Write ops) p store f id r e h w = ap (accept store (bare f) id r) h
+passes_by verdicts.Accept (body.Split side ids keys) p store f id r e h w = absurd cc
+passes_by verdicts.Accept (body.Prepare target) p store f id r e h w = absurd cc
+passes_by verdicts.Accept (body.Commit source commit carried) p store f id r e h w = absurd cc
+passes_by verdicts.Accept (body.Rollback commit) p store f id r e h w = absurd cc
+passes_by verdicts.Accept (body.Conf c) p store f id r e h w = absurd cc
+passes_by verdicts.Empty b p store f id r e h w = refl
+passes_by verdicts.Stale b p store f id r e h w = refl
+passes_by verdicts.Merging b p store f id r e h w = refl
+passes_by (verdicts.Outside place) b p store f id r e h w = ap (λ x. Went (passes_to (with_region f id (passed r)) id r (verdicts.Outside place) x)) h
+passes_by (verdicts.BadSplit place) b p store f id r e h w = refl
+passes_by verdicts.BadPeer b p store f id r e h w = refl
+passes_by verdicts.BadRollback b p store f id r e h w = absurd cc
 
--- a step of a region that was found, with a next entry that leaves it as it was
+-- a step of a region whose next entry leaves it as it is
 pub step_passes : (store : Store) (f : ByRegion) (id : ℕ) (r : Made) (e : Entry) → f id ≡ Some r → next store (bare f) id r ≡ Some e → passes (verdict r.state e) e.body ≡ true
-    → forget (step store (bare f) id) ≡ Moved (with_region f id (passed r))
-step_passes store f id r e h n p =
-    ap (λ o. forget (step_in store (bare f) id o)) h
-    ∙ (ap (λ o. forget (step_with store (bare f) id r o)) n
-    ∙ passes_by (verdict r.state e) e.body p store f id r e refl)
+    → step store (bare f) id ≡ Went (passes_to (with_region f id (passed r)) id r (verdict r.state e) e.body)
+step_passes store f id r e here next p = step_known store f id r e here next ∙ passes_by (verdict r.state e) e.body p store f id r e refl refl
 
 -- an entry that is no commit has no merge
 pub no_merge_of : (s : RegionState) (e : Entry) → None ≡ merge_in e.body → None ≡ merge_of s (Some e)

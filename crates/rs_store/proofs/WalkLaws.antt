@@ -15,13 +15,12 @@ use Rattle.rs_store.specs.declared.walk.Advance.{Advance}
 use Rattle.rs_store.specs.declared.walk.Advance.TheVariants as advances
 use Rattle.rs_store.specs.declared.fault.StepFault.{StepFault}
 use Rattle.rs_store.specs.Stores.{ByRegion, Applied, Stepped, Went, Broke, Wrote, Replied, own, is_paused, is_prepared_for, next, accept, commit_with, step_by, step_with, step_in, step, least_ready, advance_by, advance, then_advance, after}
-use Rattle.rs_store.specs.declared.effect.Effect.{Effect}
-use Rattle.rs_store.specs.Runs.{Moved, Failed, bare, forget}
+use Rattle.rs_store.specs.Runs.{bare}
 use Rattle.rs_store.specs.declared.carriers.Carriers.{Carriers}
 use Rattle.rs_store.specs.declared.place_map.PlaceMap.{PlaceMap}
 use Rattle.rs_store.specs.declared.regions.Regions.{Regions}
 use Rattle.rs_store.specs.declared.walk.Walk.{Walk}
-use Rattle.rs_store.specs.Walks.{Goes, IsWalk, Leads, Tells, gained, made_by, store_of}
+use Rattle.rs_store.specs.Walks.{Goes, IsWalk, Leads, made_by, store_of}
 use Rattle.rs_store.proofs.Orders.{next_same, least_same}
 
 -- a step, on top of these writes and replies
@@ -99,15 +98,6 @@ breaks_whole store n x h zero = let z : 0 + n ≡ n = omega arith in ap (after s
 breaks_whole store n x h (suc k) =
     let s : suc k + n ≡ suc (k + n) = omega arith in
     ap (after store) s ∙ ap (then_advance store) (breaks_whole store n x h k)
-
--- a step that goes to these regions, with its effect, is known
-pub took_whole : (s : Stepped) (h : ByRegion) (t : Effect) → forget s ≡ Moved h → Tells s t → s ≡ Went (gained h t)
-took_whole (Went g) h t is tells = let e : g.region ≡ h = cc in tells ∙ ap (λ z. Went (gained z t)) e
-took_whole (Broke fault) h t is tells = absurd cc
-
-pub broke_whole : (s : Stepped) (x : StepFault) → forget s ≡ Failed x → s ≡ Broke x
-broke_whole (Went g) x is = absurd cc
-broke_whole (Broke fault) x is = let e : fault ≡ x = cc in ap Broke e
 
 -- the step of the least region that is ready is the advance
 pub advance_is : (store : Store) (f g : ByRegion) (id : ℕ) → Some id ≡ least_ready store (bare f) → g ≡ f → advance store (bare f) ≡ step store (bare g) id

@@ -13,6 +13,7 @@ use Rattle.rs_store.specs.Stores.{carried_in, entries_in}
 abbrev pub steps_of : Entry → ℕ
 steps_of e = 1 + carried_in e.body
 
+-- how many steps the entries of a log take at most
 abbrev pub steps_in : Log → ℕ
 steps_in log = sum_by steps_of log.entries
 
@@ -20,13 +21,16 @@ steps_in log = sum_by steps_of log.entries
 abbrev pub IsFormedLog : Log → Type 0
 IsFormedLog log = All (λ e. IsFormed e.body) log.entries
 
+-- a store whose entries are well formed, whose logs ascend, and whose entries are fewer than 2^50
 pub record IsFormedOne (store : Store) : Type 0 where
   pub logs : All IsFormedLog store.logs
   pub rising : AreRising (log_ids store)
   pub few : entries_in store < 2 ^ 50
 
+-- each of the stores is formed
 abbrev pub IsFormedStores : List Store → Type 0
 IsFormedStores stores = All IsFormedOne stores
 
+-- each store of the input is formed
 abbrev pub IsFormedInput : Input → Type 0
 IsFormedInput input = IsFormedStores input.stores

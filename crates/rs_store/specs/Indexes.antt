@@ -10,6 +10,7 @@ use Rattle.rs_store.specs.Rollbacks.{Answers, AreTrue}
 abbrev pub AreRising : List ℕ → Type 0
 AreRising xs = (j k : ℕ) → j < k → k < length xs → slice_index xs j < slice_index xs k
 
+-- the regions of the logs, in their order
 abbrev pub regions_of : List Log → List ℕ
 regions_of logs = map (λ log. log.region) logs
 

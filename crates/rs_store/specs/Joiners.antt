@@ -8,10 +8,12 @@ use Rattle.rs_entry.specs.declared.input.Log.{Log}
 use Rattle.rs_entry.specs.declared.input.Store.{Store}
 use Rattle.rs_store.specs.Stores.{own, ids_of}
 
+-- the body is the commit of a merge
 abbrev pub is_commit : Body → Bool
 is_commit (body.Commit source commit carried) = true
 is_commit b = false
 
+-- the entry is the commit of a merge
 abbrev pub commits : Entry → Bool
 commits e = is_commit e.body
 
@@ -27,6 +29,6 @@ log_commits log = list_any commits log.entries
 abbrev pub any_commit : Store → Bool
 any_commit store = list_any log_commits store.logs
 
--- of the regions that the store may have, those whose own log has a commit
+-- the regions whose own log has a commit, of those that the store may have
 abbrev pub joiners_of : Store → List ℕ
 joiners_of store = filter (has_commit store) (ids_of store)

@@ -19,12 +19,15 @@ has_rollback log commit epoch = list_any (is_fitting commit epoch) (drop (commit
 abbrev pub Answers : Type 0
 Answers = ℕ → Option Answer
 
+-- the answers of all regions
 abbrev pub answers : Rollbacks → Answers
 answers r id = get nat_cmp r.answers id
 
+-- no region has an answer
 abbrev pub no_answers : Answers
 no_answers id = None
 
+-- the answers with that of one more region
 abbrev pub with_answer : Answers → ℕ → Answer → Answers
 with_answer f id a x = if x == id then Some a else f x
 

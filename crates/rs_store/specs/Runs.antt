@@ -7,14 +7,14 @@ use Rattle.rs_entry.specs.declared.entry.Body.TheVariants as body
 use Rattle.rs_entry.specs.declared.entry.Entry.{Entry}
 use Rattle.rs_entry.specs.declared.input.Store.{Store}
 use Rattle.rs_store.specs.declared.regions.Made.{Made}
-use Rattle.rs_entry.specs.Entries.{entry_of}
 use Rattle.rs_region.specs.declared.verdict.Verdict.{Verdict}
 use Rattle.rs_region.specs.declared.verdict.Verdict.TheVariants as verdicts
-use Rattle.rs_store.specs.declared.readiness.Line.{Line}
-use Rattle.rs_store.specs.declared.readiness.Line.TheVariants as lines
+use Rattle.rs_key.specs.Ranges.{first_bad_cut}
+use Rattle.rs_region.specs.declared.state.RegionState.{RegionState}
+pub use Rattle.rs_region.specs.Actions.{line_entry}
 use Rattle.rs_store.specs.declared.fault.StepFault.{StepFault}
 use Rattle.rs_store.specs.declared.regions.Regions.{Regions}
-use Rattle.rs_store.specs.Stores.{ByRegion, Applied, Stepped, Went, Broke, next, own}
+use Rattle.rs_store.specs.Stores.{ByRegion, Applied, Stepped, Went, Broke, next, own, is_prepared_for}
 
 -- the regions that the code keeps, as the model sees them
 abbrev pub seen : Regions → ByRegion
@@ -24,6 +24,7 @@ seen r id = get nat_cmp r.made id
 abbrev pub bare : ByRegion → Applied
 bare f = record { region = f; writes = []; replies = [] }
 
+-- what a run gives: the regions, or the fault of a step
 pub data Run : Type 0 where
   Moved : ByRegion → Run
   Failed : StepFault → Run
@@ -38,6 +39,7 @@ abbrev pub told : Option StepFault → ByRegion → Run
 told None f = Moved f
 told (Some fault) f = Failed fault
 
+-- the next entry of the region, if it was made
 abbrev pub next_in : Store → Applied → ℕ → Option Made → Option Entry
 next_in store g id None = None
 next_in store g id (Some r) = next store g id r
@@ -56,25 +58,30 @@ pub record IsNear (b id : ℕ) (r : Made) : Type 0 where
   pub conf_ver : r.state.epoch.conf_ver ≤ b
   pub applied : r.applied ≤ b
 
+-- each region that was made is within the bound
 abbrev pub IsWithin : ℕ → ByRegion → Type 0
 IsWithin b f = (id : ℕ) (r : Made) → f id ≡ Some r → IsNear b id r
 
+-- each region that was made has low numbers
 abbrev pub IsAllLow : ByRegion → Type 0
 IsAllLow f = (id : ℕ) (r : Made) → f id ≡ Some r → IsLow id r
 
--- of a split: as many ids as keys, and at most 64
+-- a split has as many ids as keys, and at most 64
 abbrev pub IsFormed : Body → Type 0
 IsFormed (body.Split side ids keys) = (length ids ≡ length keys) × (length keys ≤ 64)
 IsFormed b = Unit {0}
 
+-- what an accepted verdict says of a state and a body: cuts are good, and who commits isn't merging
+abbrev pub IsGood : RegionState → Body → Type 0
+IsGood s (body.Split side ids keys) = first_bad_cut s.range keys ≡ None
+IsGood s (body.Commit source commit carried) = (id at : ℕ) → is_prepared_for id at s.mode ≡ false
+IsGood s b = Unit {0}
+
+-- each entry in the store's own logs is well formed
 abbrev pub IsFormedStore : Store → Type 0
 IsFormedStore store = (id i : ℕ) (e : Entry) → slice_get (own store id) i ≡ Some e → IsFormed e.body
 
--- the entry of a line
-abbrev pub line_entry : Line → Entry
-line_entry (lines.Own e) = e.now
-line_entry (lines.Carried c) = entry_of c.now
-
+-- the verdict breaks a law
 abbrev pub is_bad : Verdict → Bool
 is_bad verdicts.BadRollback = true
 is_bad v = false

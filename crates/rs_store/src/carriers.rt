@@ -10,14 +10,14 @@ use rs_key::{NoMemory, Rows};
 use std::alloc::Global;
 use std::collections::BTreeMap;
 
-/// Which regions stand before a merge of a source, by source.
+/// The regions that stand before a merge of a source, by source.
 #[derive(Drop)]
 pub struct Carriers {
     by_source: BTreeMap<u64, Rows<u64>>,
 }
 
 impl Carriers {
-    /// Those of all regions of the store.
+    /// Returns the carriers among all regions of the store.
     pub fn of(
         alloc: Global,
         indexed: &IndexedStore<'_>,
@@ -36,7 +36,7 @@ impl Carriers {
         }
     }
 
-    /// The regions that stand before a merge of this source.
+    /// Returns the regions that stand before a merge of this source.
     pub fn get(&self, source: u64) -> &[u64]
         ensures { result.now ≡ carriers self.now source }
     {

@@ -4,12 +4,13 @@ ghost use Rattle.rs_store.specs.Stores.{carried_in, entries_in};
 ghost use Rattle.rs_store.specs.Formed.{steps_of, steps_in};
 
 use rs_entry::{Body, Entry, Log, Store};
+use rs_region::{Action, action_of};
 
 fn carried_in(body: &Body) -> usize
     ensures { result ≡ carried_in body.now }
 {
-    match body {
-        Body::Commit { carried, .. } => carried.len(),
+    match action_of(body) {
+        Action::Merges { carried, .. } => carried.len(),
         _ => 0,
     }
 }
@@ -25,7 +26,7 @@ fn steps_in(entries: &[Entry]) -> usize
     total
 }
 
-/// How many entries the store's logs hold, the carried ones too.
+/// Returns how many entries the store's logs hold, the carried ones too.
 pub fn entries_in(store: &Store) -> usize
     requires { entries_in store.now < 2 ^ 50 }
     ensures { result ≡ entries_in store.now }

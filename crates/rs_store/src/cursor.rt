@@ -2,52 +2,38 @@ ghost use Rattle.std.specs.Prelude.{◌≡◌, ℕ, ◌+◌, ◌<◌, ◌≤◌,
 ghost use Rattle.rs_store.specs.Stores.{ids_of, after, is_ready, merge_of, own_next, stands, least_ready};
 ghost use Rattle.rs_store.specs.Runs.{seen, bare, forget, told, line_entry, is_quiet, IsAllLow, IsFormedStore};
 ghost use Rattle.rs_store.specs.Places.{known};
-ghost use Rattle.rs_store.specs.Cursor.{HasMerges, IsCalm, MayPass, is_quiet_for};
+ghost use Rattle.rs_region.specs.Actions.{body_for};
+ghost use Rattle.rs_store.specs.Cursor.{IsCalm, MayPass};
+ghost use Rattle.rs_store.specs.Walks.{IsNextEntry};
 ghost use Rattle.rs_store.specs.Carriers.{carriers, standing_for};
 
 use crate::carriers::Carriers;
 use crate::indexed_store::IndexedStore;
+use crate::next_entry::{NextEntry, passes};
 use crate::place_map::PlaceMap;
-use crate::readiness::{Line, is_accept, is_ready, merge_of, next, own_next, stands};
+use crate::readiness::{is_accept, is_ready, merge_of, own_next, stands};
 use crate::regions::Regions;
-use crate::step::{passes, verdict_of};
-use rs_entry::{Body, Entry};
-use rs_key::NoMemory;
-use rs_region::RegionState;
-use std::alloc::Global;
+use rs_entry::Entry;
+use rs_region::{Action, RegionState};
 
-fn is_quiet(line: Line<'_>) -> bool
-    ensures { result ≡ is_quiet (line_entry line.entry).body }
+fn is_quiet(action: Action<'_>) -> bool
+    ensures { result ≡ is_quiet (body_for action.entry) }
 {
-    match line {
-        Line::Own(entry) => match &entry.body {
-            Body::Split { .. } => false,
-            Body::Commit { .. } => false,
-            _ => true,
-        },
-        Line::Carried(entry) => match &entry.body {
-            rs_entry::CarriedBody::Empty => true,
-            rs_entry::CarriedBody::Write(_) => true,
-            rs_entry::CarriedBody::Prepare { .. } => true,
-        },
+    match action {
+        Action::Nothing | Action::Writes(_) | Action::Turns(_) => true,
+        Action::Splits { .. } | Action::Merges { .. } => false,
     }
 }
 
-fn is_quiet_for(state: &RegionState, line: Line<'_>) -> bool
-    ensures { result ≡ is_quiet_for state.now (line_entry line.entry) }
-{
-    is_quiet(line) || !is_accept(verdict_of(state, line))
-}
-
-/// Whether the region's next step can change nothing for others.
+/// Returns whether the region's next step can change nothing for others.
 pub fn is_calm(
     indexed: &IndexedStore<'_>,
-    standing: &Carriers,
     awaited: &PlaceMap,
     regions: &Regions,
     id: u64,
+    next_entry: NextEntry<'_>,
 ) -> bool
-    requires standing { carriers standing.now ≡ standing_for indexed.now (bare (seen regions.now)) (ids_of indexed.now) }
+    requires next_entry { IsNextEntry indexed.now (seen regions.now) id next_entry }
     requires low { IsAllLow (seen regions.now) }
     ensures { result ≡ true → IsCalm indexed.now (known awaited.now) (seen regions.now) id }
 {
@@ -60,25 +46,29 @@ pub fn is_calm(
     if awaited.get(id, made.applied + 1).is_some() {
         return false;
     }
-    match next(indexed, standing, regions, id, made) {
-        None => false,
-        Some(line) => is_quiet_for(&made.state, line),
-    }
+    is_quiet(next_entry.line.action()) || !is_accept(next_entry.verdict)
 }
 
-/// Whether the region's next entry, one of its own log, is passed without a change for others.
-pub fn may_pass(indexed: &IndexedStore<'_>, awaited: &PlaceMap, regions: &Regions, id: u64) -> bool
-    requires { IsAllLow (seen regions.now) }
+/// Returns whether the region's next entry, one of its own log, is passed without a change for others.
+pub fn may_pass(
+    indexed: &IndexedStore<'_>,
+    awaited: &PlaceMap,
+    regions: &Regions,
+    id: u64,
+    next_entry: NextEntry<'_>,
+) -> bool
+    requires next_entry { IsNextEntry indexed.now (seen regions.now) id next_entry }
+    requires low { IsAllLow (seen regions.now) }
     ensures { result ≡ true → MayPass indexed.now (known awaited.now) (seen regions.now) id }
 {
     let Some(made) = regions.get(id) else {
         return false;
     };
     let log = indexed.own(id);
-    let Some(entry) = own_next(log, made.applied) else {
+    if own_next(log, made.applied).is_none() {
         return false;
-    };
-    if !passes(&made.state, Line::Own(entry)) {
+    }
+    if !passes(next_entry.verdict, next_entry.line.action()) {
         return false;
     }
     if awaited.get(id, made.applied + 1).is_some() {
@@ -87,7 +77,7 @@ pub fn may_pass(indexed: &IndexedStore<'_>, awaited: &PlaceMap, regions: &Region
     has_no_merge(&made.state, log, made.applied + 1)
 }
 
-/// Whether the entry that follows the index is no commit that is accepted.
+/// Returns whether the entry that follows the index is no commit that is accepted.
 fn has_no_merge(state: &RegionState, log: &[Entry], applied: u64) -> bool
     ensures { result ≡ true → merge_of state.now (own_next log.now applied) ≡ None }
 {
@@ -97,14 +87,14 @@ fn has_no_merge(state: &RegionState, log: &[Entry], applied: u64) -> bool
     }
 }
 
-/// Whether the cursor may stay.
+/// Returns whether the cursor may stay.
 pub fn may_stay(calm: bool, lone: bool) -> bool
     ensures { result ≡ (calm && lone) }
 {
     calm && lone
 }
 
-/// The place of the first region that is ready, from the cursor on.
+/// Returns the place of the first region that is ready, from the cursor on.
 pub fn ready_from(
     indexed: &IndexedStore<'_>,
     standing: &Carriers,

@@ -2,7 +2,7 @@ use rs_entry::Mode;
 use rs_key::Range;
 use thiserror::Error;
 
-/// Why an entry can't be applied.
+/// The fault of an entry that can't be applied.
 #[derive(Debug, Drop, Error)]
 pub enum StepFault {
     /// A Rollback of a merge that the region isn't in.
@@ -33,7 +33,7 @@ pub enum StepFault {
     },
 }
 
-/// Why a store's run is refused.
+/// The fault of a store whose run is refused.
 #[derive(Debug, Drop, Error)]
 pub enum StoreFault {
     /// The next entry of a region that is ready can't be applied.

@@ -6,7 +6,7 @@ ghost use Rattle.rs_store.specs.Stores.{insert_id, add_all};
 use rs_entry::Boot;
 use rs_key::NoMemory;
 
-/// The first place whose number isn't below this one.
+/// Returns the first place whose number isn't below this one.
 fn place_of(ids: &[u64], id: u64) -> usize
     ensures within { result ≤ length ids.now }
     ensures below { (k : ℕ) → k < result → slice_index ids.now k < id }

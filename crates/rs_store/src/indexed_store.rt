@@ -13,7 +13,7 @@ use rs_key::{Epoch, NoMemory};
 use std::alloc::Global;
 use std::marker::Model;
 
-/// A store that is run, with the regions that it may make, with its logs at hand by region, and with the rollbacks
+/// A store that is run, with the regions that it may make, with its logs by region, and with the rollbacks
 /// that were looked for in them.
 ///
 /// Contracts see the store.
@@ -38,7 +38,7 @@ impl<'a> Model for IndexedStore<'a> {
 }
 
 impl<'a> IndexedStore<'a> {
-    /// The store, with the regions that it may make, and whether its logs have a commit.
+    /// Returns the store, with the regions that it may make, and whether its logs have a commit.
     pub(crate) fn new(
         alloc: Global,
         store: &'a Store,
@@ -59,41 +59,42 @@ impl<'a> IndexedStore<'a> {
         })
     }
 
+    /// Returns the store.
     pub fn store(&self) -> &'a Store
         ensures { result.now ≡ self.now }
     {
         self.store
     }
 
-    /// The regions that the store may make, by id.
+    /// Returns the regions that the store may make, by id.
     pub fn ids(&self) -> &[u64]
         ensures { result.now ≡ ids_of self.now }
     {
         self.ids.as_slice()
     }
 
-    /// Of these, the regions whose own log has a commit, by id: no other can stand before a merge.
+    /// Returns the regions whose own log has a commit, by id: no other can stand before a merge.
     pub(crate) fn joiners(&self) -> &[u64]
         ensures { result.now ≡ joiners_of self.now }
     {
         self.joiners.as_slice()
     }
 
-    /// The regions that the store may make, by id, when nothing else is needed any more.
+    /// Returns the regions that the store may make, by id, when nothing else is needed any more.
     pub fn into_ids(self) -> Vec<u64>
         ensures { result.items ≡ ids_of self.entry }
     {
         self.ids
     }
 
-    /// The store's own log of the region; empty where it has none.
+    /// Returns the store's own log of the region; empty where it has none.
     pub fn own(&self, region: u64) -> &'a [Entry]
         ensures { result.now ≡ own self.now region }
     {
         own(self.store, region)
     }
 
-    /// Whether the region's own log has a rollback past the commit that fits the epoch.
+    /// Returns whether the region's own log has a rollback past the commit that fits the epoch.
     pub(crate) fn has_rollback(&self, region: u64, commit: u64, epoch: &Epoch) -> bool
         ensures { result ≡ has_rollback (own self.now region) commit epoch.now }
     {
@@ -122,7 +123,7 @@ impl<'a> IndexedStore<'a> {
     }
 }
 
-/// The store's own log of the region; empty where it has none.
+/// Returns the store's own log of the region; empty where it has none.
 pub fn own(store: &Store, region: u64) -> &[Entry]
     requires { AreRising (log_ids store.now) }
     ensures { result.now ≡ own store.now region }
@@ -160,7 +161,7 @@ fn region_at(logs: &[Log], place: usize) -> u64
     logs[place].region
 }
 
-/// The place of the first log whose region isn't below this one.
+/// Returns the place of the first log whose region isn't below this one.
 fn place_of(logs: &[Log], region: u64) -> usize
     requires { AreRising (regions_of logs.now) }
     ensures within { result ≤ length logs.now }

@@ -4,12 +4,13 @@ ghost use Rattle.rs_store.specs.Indexes.{AreRising, log_ids};
 ghost use Rattle.rs_store.specs.Joiners.{any_commit, commits, has_commit};
 
 use crate::indexed_store::own;
-use rs_entry::{Body, Entry, Store};
+use rs_entry::{Entry, Store};
 use rs_key::NoMemory;
+use rs_region::{Action, action_of};
 use std::alloc::Global;
 
-/// Of these regions, those whose own log has a commit: no other can stand before a merge. Where the store has no commit
-/// at all its logs aren't looked at.
+/// Returns those of these regions whose own log has a commit: no other can stand before a merge. Where the store has
+/// no commit at all its logs aren't looked at.
 #[tactic(auto, using(crate::proofs::JoinerLaws::none_join))]
 pub fn joiners_of(
     alloc: Global,
@@ -42,5 +43,5 @@ fn has_commit(log: &[Entry]) -> bool
 fn commits(entry: &Entry) -> bool
     ensures { result ≡ commits entry.now }
 {
-    matches!(entry.body, Body::Commit { .. })
+    matches!(action_of(&entry.body), Action::Merges { .. })
 }

@@ -30,7 +30,7 @@ fn put_boots(alloc: Global, regions: &mut Regions, boots: &[Boot]) -> Result<(),
     }
 }
 
-/// The regions that are there from the start.
+/// Returns the regions that are there from the start.
 pub fn opening(alloc: Global, indexed: &IndexedStore<'_>) -> Result<Regions, NoMemory>
     ensures { IfOk result (λ regions. seen regions ≡ (opening indexed.now).region) }
 {

@@ -9,17 +9,17 @@ use std::mem;
 
 /// Places that are known by a region and an index.
 ///
-/// The places of one region are at hand: to look up or to put one of them takes about the time of a step in a list.
+/// The places of one region stand outside of the map: to look up or to put one of them takes constant time.
 #[derive(Drop)]
 pub struct PlaceMap {
-    /// The region whose places are at hand.
+    /// The region whose places stand outside of the map.
     region: u64,
     at_hand: RegionPlaces,
     kept: BTreeMap<u64, RegionPlaces>,
 }
 
 impl PlaceMap {
-    /// No place is known. It takes no memory.
+    /// Returns the map that knows no place. It takes no memory.
     pub fn new(alloc: Global) -> PlaceMap
         ensures { known result ≡ no_places }
     {
@@ -30,6 +30,7 @@ impl PlaceMap {
         }
     }
 
+    /// Returns the place of the region's index; `None` if it isn't known.
     pub fn get(&self, region: u64, index: u64) -> Option<usize>
         ensures { result ≡ known self.now region index }
     {
@@ -42,7 +43,7 @@ impl PlaceMap {
         }
     }
 
-    /// From here on the place is known there, and no other.
+    /// Records the place of the index of the region, instead of any other.
     pub fn put(&mut self, region: u64, index: u64, place: usize) -> Result<(), NoMemory>
         ensures { OnOk result (known self.new ≡ with_place (known self.old) region index place) }
     {
@@ -50,7 +51,7 @@ impl PlaceMap {
         self.put_here(index, place)
     }
 
-    /// The places of the region are at hand from here on. The same places are known.
+    /// Makes the region the one whose places are found fastest. The same places are known.
     pub fn turn_to(&mut self, region: u64) -> Result<(), NoMemory>
         ensures known { OnOk result (known self.new ≡ known self.old) }
         ensures region { OnOk result (self.new.region ≡ region) }
@@ -67,7 +68,7 @@ impl PlaceMap {
         self.at_hand.put(index, place)
     }
 
-    /// Keeps the places at hand, and takes out those of another region.
+    /// Puts the current region's places into the map, and takes out those of another region.
     fn exchange(&mut self, region: u64) -> Result<(), NoMemory>
         requires { self.old.region ≡ region → ⊥ }
         ensures known { OnOk result (known self.new ≡ known self.old) }

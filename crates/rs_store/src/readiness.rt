@@ -11,15 +11,8 @@ use crate::indexed_store::IndexedStore;
 use crate::regions::{Made, Regions};
 use rs_entry::{Body, Carried, Entry, INIT_INDEX, Mode};
 use rs_key::{NoMemory, Rows};
-use rs_region::{RegionState, Verdict};
+use rs_region::{Action, Line, RegionState, Verdict, action_of};
 use std::marker::Model;
-
-/// An entry: of the region's own log, or carried by a commit.
-#[derive(Clone, Copy)]
-pub enum Line<'a> {
-    Own(&'a Entry),
-    Carried(&'a Carried),
-}
 
 /// The merge before which a region stands.
 #[derive(Drop)]
@@ -37,6 +30,7 @@ impl<'a> Model for Standing<'a> {
     ghost view = { λ s. record { source = s.source; commit = s.commit; carried = s.carried.now } };
 }
 
+/// Returns whether the region has prepared a merge and its log has no rollback that fits.
 pub fn is_paused(indexed: &IndexedStore<'_>, id: u64, state: &RegionState) -> bool
     ensures { result ≡ is_paused (own indexed.now id) state.now }
 {
@@ -68,7 +62,7 @@ pub fn look(indexed: &mut IndexedStore<'_>, regions: &Regions, id: u64) -> Resul
     }
 }
 
-/// Whether the entry is applied.
+/// Returns whether the entry is applied.
 pub fn is_accept(verdict: Verdict) -> bool
     ensures { result ≡ is_accept verdict }
 {
@@ -81,21 +75,21 @@ pub fn is_accept(verdict: Verdict) -> bool
 fn merge_in(body: &Body) -> Option<Standing<'_>>
     ensures { result ≡ merge_in body.now }
 {
-    match body {
-        Body::Commit {
+    match action_of(body) {
+        Action::Merges {
             source,
             commit,
             carried,
         } => Some(Standing {
-            source: *source,
-            commit: *commit,
+            source,
+            commit,
             carried,
         }),
         _ => None,
     }
 }
 
-/// The merge of the entry, where it is a commit that the region accepts.
+/// Returns the merge of the entry, where it is a commit that the region accepts.
 #[tactic(auto, using(crate::proofs::Verdicts::no_merge_of))]
 pub fn merge_of<'a>(state: &RegionState, entry: &'a Entry) -> Option<Standing<'a>>
     ensures { result ≡ merge_of state.now (Some entry.now) }
@@ -109,13 +103,14 @@ pub fn merge_of<'a>(state: &RegionState, entry: &'a Entry) -> Option<Standing<'a
     Some(merge)
 }
 
+/// Returns the log's entry after the applied index; `None` at its end.
 pub fn own_next(log: &[Entry], applied: u64) -> Option<&Entry>
     ensures { option_copied result ≡ own_next log.now applied }
 {
     log.get(applied.saturating_sub(INIT_INDEX) as usize)
 }
 
-/// The merge that the region stands before.
+/// Returns the merge that the region stands before.
 pub fn stands<'a>(indexed: &IndexedStore<'a>, regions: &Regions, id: u64) -> Option<Standing<'a>>
     ensures { result ≡ stands indexed.now (bare (seen regions.now)) id }
 {
@@ -131,6 +126,7 @@ pub fn stands<'a>(indexed: &IndexedStore<'a>, regions: &Regions, id: u64) -> Opt
     }
 }
 
+/// Returns the carried entry with this index; `None` if there is none.
 pub fn find_carried(carried: &[Carried], index: u64) -> Option<&Carried>
     ensures { option_copied result ≡ find (λ c. c.index == index) carried.now }
 {
@@ -177,7 +173,7 @@ fn carried_next<'a>(
     None
 }
 
-/// What is carried for the region at the index.
+/// Returns what is carried for the region at the index.
 fn carried_for<'a>(
     indexed: &IndexedStore<'a>,
     standing: &Carriers,
@@ -191,7 +187,7 @@ fn carried_for<'a>(
     carried_next(indexed, standing.get(id), regions, id, index)
 }
 
-/// The region's next entry, where it is at hand.
+/// Returns the region's next entry, if the region's own log or a commit has it.
 #[tactic(auto, using(crate::proofs::Verdicts::formed_carried))]
 pub fn next<'a>(
     indexed: &IndexedStore<'a>,
@@ -223,6 +219,7 @@ fn has_applied(regions: &Regions, id: u64, commit: u64) -> bool
     }
 }
 
+/// Returns whether the region can apply its next entry: it goes on, has one, and a merge's source is there.
 pub fn is_ready(indexed: &IndexedStore<'_>, standing: &Carriers, regions: &Regions, id: u64) -> bool
     requires standing { carriers standing.now ≡ standing_for indexed.now (bare (seen regions.now)) (ids_of indexed.now) }
     requires low { IsAllLow (seen regions.now) }

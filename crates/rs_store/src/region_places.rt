@@ -17,7 +17,7 @@ pub struct RegionPlaces {
 }
 
 impl RegionPlaces {
-    /// No place is known. It takes no memory.
+    /// Returns the map that knows no place. It takes no memory.
     pub fn new(alloc: Global) -> RegionPlaces
         ensures { place_in result ≡ nowhere }
     {
@@ -28,10 +28,12 @@ impl RegionPlaces {
         }
     }
 
+    /// Returns the allocator that memory is taken from.
     pub fn allocator(&self) -> Global {
         *self.run.allocator()
     }
 
+    /// Returns the place of the index; `None` if it isn't known.
     pub fn get(&self, index: u64) -> Option<usize>
         ensures { result ≡ place_in self.now index }
     {
@@ -50,7 +52,7 @@ impl RegionPlaces {
         self.run.get((index - self.first) as usize).copied()
     }
 
-    /// From here on the place is known at the index, and the others are as they were.
+    /// Records the place of the index. The other places stay as they were.
     pub fn put(&mut self, index: u64, place: usize) -> Result<(), NoMemory>
         ensures { OnOk result (place_in self.new ≡ with_index (place_in self.old) index place) }
     {
@@ -72,7 +74,7 @@ impl RegionPlaces {
         self.put_apart(index, place)
     }
 
-    /// No run has begun. At index 0, where no entry is, none begins.
+    /// Records the first place. It begins the run, but at index 0, where no entry is.
     fn put_first(&mut self, index: u64, place: usize) -> Result<(), NoMemory>
         requires { self.old.run.items ≡ [] }
         ensures { OnOk result (place_in self.new ≡ with_index (place_in self.old) index place) }
@@ -83,7 +85,7 @@ impl RegionPlaces {
         self.begin(index, place)
     }
 
-    /// The run begins with this place.
+    /// Begins the run with this place.
     fn begin(&mut self, index: u64, place: usize) -> Result<(), NoMemory>
         requires { self.old.run.items ≡ [] }
         ensures { OnOk result (place_in self.new ≡ with_index (place_in self.old) index place) }
@@ -93,7 +95,7 @@ impl RegionPlaces {
         Ok(())
     }
 
-    /// The run goes on with this place.
+    /// Extends the run by this place.
     fn go_on(&mut self, index: u64, place: usize) -> Result<(), NoMemory>
         requires { index ≡ self.old.first + length self.old.run.items }
         ensures { OnOk result (place_in self.new ≡ with_index (place_in self.old) index place) }
@@ -102,7 +104,7 @@ impl RegionPlaces {
         Ok(())
     }
 
-    /// The place is known in the place of one of the run.
+    /// Replaces a place of the run.
     fn put_over(&mut self, at: usize, place: usize)
         requires { at < length self.old.run.items }
         ensures { place_in self.new ≡ with_index (place_in self.old) (self.old.first + at) place }
@@ -110,7 +112,7 @@ impl RegionPlaces {
         self.run[at] = place;
     }
 
-    /// The place is known, outside of the run.
+    /// Records a place outside of the run.
     fn put_apart(&mut self, index: u64, place: usize) -> Result<(), NoMemory>
         requires { in_run self.old.first self.old.run.items index ≡ None }
         ensures { OnOk result (place_in self.new ≡ with_index (place_in self.old) index place) }

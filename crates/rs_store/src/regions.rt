@@ -9,10 +9,10 @@ use rs_region::RegionState;
 use std::alloc::Global;
 use std::collections::BTreeMap;
 
-/// How a region came to be.
+/// The origin of a region.
 #[derive(Clone, Copy, Debug, PartialEq, Eq)]
 pub enum Origin {
-    /// It is there from the start.
+    /// The region is a boot region.
     Boot,
     /// The entry of the parent at the index split it off.
     Split { parent: u64, index: u64 },
@@ -36,7 +36,7 @@ pub struct Regions {
 }
 
 impl Regions {
-    /// No region. It takes no memory.
+    /// Returns the map without a region. It takes no memory.
     pub fn new(alloc: Global) -> Regions
         ensures { seen result ≡ no_regions }
     {
@@ -45,13 +45,14 @@ impl Regions {
         }
     }
 
+    /// Returns the region with this id; `None` if it wasn't made.
     pub fn get(&self, id: u64) -> Option<&Made>
         ensures { option_copied result ≡ seen self.now id }
     {
         self.made.get(&id)
     }
 
-    /// From here on the region is so. Where memory runs out it may be gone, and the others are as they were.
+    /// Records the state of the region. Where memory runs out it may be gone, and the others are as they were.
     pub fn put(&mut self, id: u64, made: Made) -> Result<(), NoMemory>
         ensures { OnOk result (seen self.new ≡ with_region (seen self.old) id made) }
     {
@@ -60,7 +61,7 @@ impl Regions {
         Ok(())
     }
 
-    /// The region has applied one entry more. Where it isn't there nothing changes.
+    /// Records that the region has applied one more entry. Where it isn't there nothing changes.
     pub fn pass(&mut self, id: u64)
         requires { (made : Made) → seen self.old id ≡ Some made → made.applied < 2 ^ 62 }
         ensures { (made : Made) → seen self.old id ≡ Some made → seen self.new ≡ with_region (seen self.old) id (passed made) }

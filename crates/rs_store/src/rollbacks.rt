@@ -5,8 +5,9 @@ ghost use Rattle.rs_key.specs.Epochs.{same_epochs};
 ghost use Rattle.rs_store.specs.Stores.{is_fitting};
 ghost use Rattle.rs_store.specs.Rollbacks.{answers, no_answers, with_answer, is_to, has_rollback};
 
-use rs_entry::{Body, Entry, INIT_INDEX};
+use rs_entry::{Entry, INIT_INDEX};
 use rs_key::{Epoch, Kind, NoMemory};
+use rs_region::{Action, Turn, action_of};
 use std::alloc::Global;
 use std::collections::BTreeMap;
 
@@ -18,14 +19,14 @@ pub struct Answer {
     pub found: bool,
 }
 
-/// What was last found for each region, so that no log is looked through at each step.
+/// The last answer found for each region, so that no log is searched at each step.
 #[derive(Drop)]
 pub struct Rollbacks {
     answers: BTreeMap<u64, Answer>,
 }
 
 impl Rollbacks {
-    /// Nothing was looked for. It takes no memory.
+    /// Returns the map without an answer. It takes no memory.
     pub fn new(alloc: Global) -> Rollbacks
         ensures { answers result ≡ no_answers }
     {
@@ -34,13 +35,14 @@ impl Rollbacks {
         }
     }
 
+    /// Returns the region's answer; `None` if it has none.
     pub fn get(&self, region: u64) -> Option<&Answer>
         ensures { option_copied result ≡ answers self.now region }
     {
         self.answers.get(&region)
     }
 
-    /// From here on this is the region's answer.
+    /// Records the region's answer.
     pub fn put(&mut self, region: u64, answer: Answer) -> Result<(), NoMemory>
         ensures put { OnOk result (answers self.new ≡ with_answer (answers self.old) region answer) }
         ensures kept { OnErr result (answers self.new ≡ answers self.old) }
@@ -50,7 +52,7 @@ impl Rollbacks {
     }
 }
 
-/// Whether it answers for this commit and this epoch.
+/// Returns whether it answers for this commit and this epoch.
 pub fn is_to(answer: &Answer, commit: u64, epoch: &Epoch) -> bool
     ensures { result ≡ is_to answer.now commit epoch.now }
 {
@@ -61,15 +63,15 @@ pub fn is_to(answer: &Answer, commit: u64, epoch: &Epoch) -> bool
 fn is_fitting(commit: u64, epoch: &Epoch, entry: &Entry) -> bool
     ensures { result ≡ is_fitting commit epoch.now entry.now }
 {
-    match entry.body {
-        Body::Rollback { commit: own } => {
+    match action_of(&entry.body) {
+        Action::Turns(Turn::Rollback { commit: own }) => {
             commit < entry.index && (own == commit && epoch.matches(Kind::Rollback, &entry.epoch))
         }
         _ => false,
     }
 }
 
-/// The entries of the log past the commit.
+/// Returns the entries of the log past the commit.
 fn past(log: &[Entry], commit: u64) -> &[Entry]
     ensures { result.now ≡ drop (commit - 5) log.now }
 {
@@ -92,7 +94,7 @@ fn has_fitting(entries: &[Entry], commit: u64, epoch: &Epoch) -> bool
     false
 }
 
-/// Whether the log has a rollback past the commit that fits the epoch.
+/// Returns whether the log has a rollback past the commit that fits the epoch.
 pub fn has_rollback(log: &[Entry], commit: u64, epoch: &Epoch) -> bool
     ensures { result ≡ has_rollback log.now commit epoch.now }
 {

@@ -1,120 +1,46 @@
-ghost use Rattle.std.specs.Prelude.{◌≡◌, ℕ, ◌+◌, ◌<◌, ◌≤◌, ◌^◌, Option, Some, None, IfOk, OnOk, ◌&&◌, true, false, length, List};
+ghost use Rattle.std.specs.Prelude.{◌≡◌, ℕ, ◌+◌, ◌<◌, ◌≤◌, ◌^◌, [], Some, None, Ok, IfOk, OnOk, ◌&&◌, true, false, length};
 ghost use Rattle.rs_entry.specs.declared.entry.Body.{Body};
 ghost use Rattle.rs_key.specs.Ranges.{first_bad_cut, is_next_to};
 ghost use Rattle.rs_store.specs.declared.regions.Origin.TheVariants as origins;
+ghost use Rattle.rs_region.specs.Actions.{body_for, turn_body, turned_on};
 ghost use Rattle.rs_region.specs.Verdicts.{verdict};
-ghost use Rattle.rs_region.specs.Reshapings.{split_kept, split_new, prepared, rolled_back, committed};
+ghost use Rattle.rs_region.specs.Reshapings.{split_kept, split_new, committed};
 ghost use Rattle.rs_region.specs.declared.verdict.Verdict.TheVariants as verdicts;
-ghost use Rattle.rs_store.specs.declared.regions.Made.{Made};
-ghost use Rattle.rs_store.specs.Stores.{ids_of, own, is_paused, step, step_by, accept, commit_in, with_region, with_regions, is_prepared_for, commit_with, as_merged, passed, reshaped, born, conf_changed, is_removal_of};
-ghost use Rattle.rs_store.specs.Runs.{seen, bare, forget, told, Moved, IsLow, IsAllLow, IsFormed, IsFormedStore, line_entry, is_bad, is_plain, passes};
-ghost use Rattle.rs_store.specs.Carriers.{carriers, standing_for};
+ghost use Rattle.rs_store.specs.Stores.{ByRegion, own, is_paused, step, step_by, accept, commit_in, with_region, with_regions, is_prepared_for, commit_with, as_merged, passed, reshaped, born};
+ghost use Rattle.rs_store.specs.Runs.{seen, bare, IsLow, IsAllLow, IsFormed, IsGood, line_entry, is_plain, passes};
+ghost use Rattle.rs_entry.specs.declared.outcome.Reply.TheVariants as replies;
+ghost use Rattle.rs_store.specs.Walks.{came, done, gained, passes_to, written, IsNextEntry};
 
-use crate::carriers::Carriers;
+use crate::effect::Effect;
 use crate::fault::StepFault;
 use crate::indexed_store::IndexedStore;
-use crate::readiness::{Line, is_accept, is_paused, next};
+use crate::next_entry::{NextEntry, passes};
+use crate::readiness::is_paused;
 use crate::regions::{Made, Origin, Regions};
-use rs_entry::{Body, CarriedBody, Change, INIT_INDEX, Mode, Side};
+use crate::replies::{ops_in, reply_to};
+use rs_entry::{INIT_INDEX, Mode, Op, Reply, Side};
 use rs_key::{Key, NoMemory, Rows};
-use rs_region::{RegionState, Verdict};
+use rs_region::{Action, RegionState, Turn, Verdict};
 use std::alloc::Global;
 
-pub fn verdict_of(state: &RegionState, line: Line<'_>) -> Verdict
-    ensures { result ≡ verdict state.now (line_entry line.entry) }
+fn commit_in(action: Action<'_>) -> u64
+    ensures { result ≡ commit_in (body_for action.entry) }
 {
-    match line {
-        Line::Own(entry) => state.verdict(entry),
-        Line::Carried(entry) => state.verdict_carried(entry),
+    match action {
+        Action::Turns(Turn::Rollback { commit }) => commit,
+        _ => 0,
     }
 }
 
-fn commit_in(line: Line<'_>) -> u64
-    ensures { result ≡ commit_in (line_entry line.entry).body }
-{
-    match line {
-        Line::Own(entry) => match &entry.body {
-            Body::Rollback { commit } => *commit,
-            _ => 0,
-        },
-        Line::Carried(entry) => match &entry.body {
-            CarriedBody::Empty => 0,
-            CarriedBody::Write(_) => 0,
-            CarriedBody::Prepare { .. } => 0,
-        },
-    }
-}
-
-fn is_plain(line: Line<'_>) -> bool
-    ensures { result ≡ is_plain (line_entry line.entry).body }
-{
-    match line {
-        Line::Own(entry) => match &entry.body {
-            Body::Empty => true,
-            Body::Write(_) => true,
-            _ => false,
-        },
-        Line::Carried(entry) => match &entry.body {
-            CarriedBody::Empty => true,
-            CarriedBody::Write(_) => true,
-            CarriedBody::Prepare { .. } => false,
-        },
-    }
-}
-
-/// Whether the entry leaves the region as it is, but for the index.
-pub fn passes(state: &RegionState, line: Line<'_>) -> bool
-    ensures { result ≡ passes (verdict state.now (line_entry line.entry)) (line_entry line.entry).body }
-{
-    match verdict_of(state, line) {
-        Verdict::Accept => is_plain(line),
-        Verdict::BadRollback => false,
-        _ => true,
-    }
-}
-
-/// Puts the region back, one entry on.
-fn pass(regions: &mut Regions, id: u64, made: Made) -> Result<Option<StepFault>, NoMemory>
-    requires { made.applied < 2 ^ 62 }
-    ensures { IfOk result (λ fault. told fault (seen regions.new) ≡ Moved (with_region (seen regions.old) id (passed made))) }
-{
-    let Made {
-        state,
-        applied,
-        origin,
-        reshapings,
-    } = made;
-    regions.put(
-        id,
-        Made {
-            state,
-            applied: applied + 1,
-            origin,
-            reshapings,
-        },
-    )?;
-    Ok(None)
-}
-
-/// The region one entry on, which is a reshaping.
+/// Returns the region one entry on, which is a reshaping.
 fn recorded(made: Made) -> Result<Made, NoMemory>
     requires { made.applied < 2 ^ 62 }
     ensures { IfOk result (λ now. now ≡ reshaped made made.state) }
 {
-    let Made {
-        state,
-        applied,
-        origin,
-        mut reshapings,
-    } = made;
-    let applied = applied + 1;
-    reshapings.push(applied)?;
-    Ok(Made {
-        state,
-        applied,
-        origin,
-        reshapings,
-    })
+    let mut made = made;
+    made.applied += 1;
+    made.reshapings.push(made.applied)?;
+    Ok(made)
 }
 
 fn is_prepared_for(target: u64, commit: u64, mode: Mode) -> bool
@@ -125,15 +51,6 @@ fn is_prepared_for(target: u64, commit: u64, mode: Mode) -> bool
             target: own,
             commit: prepared,
         } => own == target && prepared == commit,
-        _ => false,
-    }
-}
-
-fn is_bad(verdict: Verdict) -> bool
-    ensures { result ≡ is_bad verdict }
-{
-    match verdict {
-        Verdict::BadRollback => true,
         _ => false,
     }
 }
@@ -155,7 +72,7 @@ fn put_all(
     Ok(())
 }
 
-/// A region that has applied nothing yet.
+/// Returns a region that has applied nothing yet.
 pub fn born(alloc: Global, state: RegionState, origin: Origin) -> Made
     ensures { result ≡ born state origin }
 {
@@ -167,6 +84,7 @@ pub fn born(alloc: Global, state: RegionState, origin: Origin) -> Made
     }
 }
 
+/// Splits the region, and returns its version then.
 fn split(
     regions: &mut Regions,
     id: u64,
@@ -174,137 +92,67 @@ fn split(
     side: Side,
     ids: &Rows<u64>,
     keys: &Rows<Key>,
-) -> Result<Option<StepFault>, NoMemory>
+) -> Result<u64, NoMemory>
     requires low { IsLow id made }
     requires lengths { length ids.now ≡ length keys.now }
     requires few { length keys.now ≤ 64 }
     requires good { first_bad_cut made.state.range keys.now ≡ None }
-    ensures { IfOk result (λ fault. told fault (seen regions.new) ≡ Moved (with_regions (with_region (seen regions.old) id (reshaped made (split_kept made.state side keys.now))) (split_new made.state side ids.now keys.now) (origins.Split id (made.applied + 1)))) }
+    ensures regions { OnOk result (seen regions.new ≡ with_regions (with_region (seen regions.old) id (reshaped made (split_kept made.state side keys.now))) (split_new made.state side ids.now keys.now) (origins.Split id (made.applied + 1))) }
+    ensures version { IfOk result (λ version. version ≡ (split_kept made.state side keys.now).epoch.version) }
 {
-    let Made {
-        mut state,
-        applied,
-        origin,
-        reshapings,
-    } = recorded(made)?;
-    let new = state.exec_split(side, ids, keys)?;
-    regions.put(
-        id,
-        Made {
-            state,
-            applied,
-            origin,
-            reshapings,
-        },
-    )?;
+    let mut made = recorded(made)?;
+    let new = made.state.exec_split(side, ids, keys)?;
+    let version = made.state.epoch.version;
     let origin = Origin::Split {
         parent: id,
-        index: applied,
+        index: made.applied,
     };
+    regions.put(id, made)?;
     put_all(ids.allocator(), regions, new, origin)?;
-    Ok(None)
+    Ok(version)
 }
 
-fn prepare(
-    regions: &mut Regions,
-    id: u64,
-    made: Made,
-    target: u64,
-) -> Result<Option<StepFault>, NoMemory>
-    requires low { IsLow id made }
-    ensures { IfOk result (λ fault. told fault (seen regions.new) ≡ Moved (with_region (seen regions.old) id (reshaped made (prepared made.state target (made.applied + 1))))) }
-{
-    let Made {
-        mut state,
-        applied,
-        origin,
-        reshapings,
-    } = recorded(made)?;
-    state.exec_prepare(target, applied);
-    regions.put(
-        id,
-        Made {
-            state,
-            applied,
-            origin,
-            reshapings,
-        },
-    )?;
-    Ok(None)
-}
-
-fn roll_back(regions: &mut Regions, id: u64, made: Made) -> Result<Option<StepFault>, NoMemory>
-    requires low { IsLow id made }
-    ensures { IfOk result (λ fault. told fault (seen regions.new) ≡ Moved (with_region (seen regions.old) id (reshaped made (rolled_back made.state)))) }
-{
-    let Made {
-        mut state,
-        applied,
-        origin,
-        reshapings,
-    } = recorded(made)?;
-    state.exec_rollback();
-    regions.put(
-        id,
-        Made {
-            state,
-            applied,
-            origin,
-            reshapings,
-        },
-    )?;
-    Ok(None)
-}
-
-fn change_peers(
+/// Turns the region, and returns its version then.
+fn turn(
     indexed: &IndexedStore<'_>,
     regions: &mut Regions,
     id: u64,
     made: Made,
-    change: &Change,
-) -> Result<Option<StepFault>, NoMemory>
+    turn: Turn,
+) -> Result<u64, NoMemory>
     requires low { IsLow id made }
-    ensures { IfOk result (λ fault. told fault (seen regions.new) ≡ Moved (with_region (seen regions.old) id (reshaped made (conf_changed indexed.now.id made.state change.now)))) }
+    ensures regions { OnOk result (seen regions.new ≡ with_region (seen regions.old) id (reshaped made (turned_on indexed.now.id (made.applied + 1) turn made.state))) }
+    ensures version { IfOk result (λ version. version ≡ (turned_on indexed.now.id (made.applied + 1) turn made.state).epoch.version) }
 {
-    let Made {
-        state,
-        applied,
-        origin,
-        reshapings,
-    } = recorded(made)?;
-    let state = conf_changed(indexed.store().id, state, change)?;
-    regions.put(
-        id,
-        Made {
-            state,
-            applied,
-            origin,
-            reshapings,
-        },
-    )?;
-    Ok(None)
+    let mut made = recorded(made)?;
+    let store = indexed.store().id;
+    made.state.turn_on(store, turn, made.applied)?;
+    let version = made.state.epoch.version;
+    regions.put(id, made)?;
+    Ok(version)
 }
 
-/// The state on the store after the change.
-fn conf_changed(store: u64, state: RegionState, change: &Change) -> Result<RegionState, NoMemory>
-    requires { state.epoch.conf_ver < 2 ^ 62 }
-    ensures { IfOk result (λ now. now ≡ conf_changed store state change.now) }
+/// The region takes over the source, which was taken out. Returns its version then.
+fn join(
+    regions: &mut Regions,
+    id: u64,
+    made: Made,
+    source: u64,
+    taken: Made,
+) -> Result<u64, NoMemory>
+    requires low { IsLow id made }
+    requires source { taken.state.epoch.version < 2 ^ 62 }
+    requires next { is_next_to made.state.range taken.state.range ≡ true }
+    ensures regions { OnOk result (seen regions.new ≡ with_region (with_region (seen regions.old) source (as_merged taken id)) id (reshaped made (committed made.state taken.state))) }
+    ensures version { IfOk result (λ version. version ≡ (committed made.state taken.state).epoch.version) }
 {
-    let mut state = state;
-    state.exec_conf(change)?;
-    if is_removal_of(store, change) {
-        state.exec_removed();
-    }
-    Ok(state)
-}
-
-fn is_removal_of(store: u64, change: &Change) -> bool
-    ensures { result ≡ is_removal_of store change.now }
-{
-    match change {
-        Change::Add(_) => false,
-        Change::Remove(peer) => *peer == store,
-    }
+    let mut made = recorded(made)?;
+    let mut taken = taken;
+    made.state.exec_commit(&mut taken.state)?;
+    let version = made.state.epoch.version;
+    regions.put(source, taken)?;
+    regions.put(id, made)?;
+    Ok(version)
 }
 
 fn may_join(indexed: &IndexedStore<'_>, id: u64, source: u64, commit: u64, taken: &Made) -> bool
@@ -313,187 +161,150 @@ fn may_join(indexed: &IndexedStore<'_>, id: u64, source: u64, commit: u64, taken
     is_prepared_for(id, commit, taken.state.mode) && is_paused(indexed, source, &taken.state)
 }
 
-fn commit(
+/// The region commits a merge.
+fn merge<'a>(
     indexed: &IndexedStore<'_>,
     regions: &mut Regions,
     id: u64,
     made: Made,
     source: u64,
     commit: u64,
-) -> Result<Option<StepFault>, NoMemory>
+) -> Result<Result<Effect<'a>, StepFault>, NoMemory>
     requires low { IsLow id made }
     requires all { IsAllLow (seen regions.old) }
     requires out { seen regions.old id ≡ None }
     requires merging { is_prepared_for id commit made.state.mode ≡ false }
-    ensures { IfOk result (λ fault. (b : Body) → forget (commit_with indexed.now (bare (with_region (seen regions.old) id made)) id made b source commit (with_region (seen regions.old) id made source)) ≡ told fault (seen regions.new)) }
+    ensures { IfOk result (λ r. (b : Body) → commit_with indexed.now (bare (with_region (seen regions.old) id made)) id made b source commit (with_region (seen regions.old) id made source) ≡ came (seen regions.new) r) }
 {
+    let index = made.applied + 1;
     let Some(taken) = regions.take(source) else {
-        return Ok(Some(StepFault::NotPrepared {
+        return Ok(Err(StepFault::NotPrepared {
             region: id,
-            index: made.applied + 1,
+            index,
             source,
             commit,
         }));
     };
     if !may_join(indexed, id, source, commit, &taken) {
-        return Ok(Some(StepFault::NotPrepared {
+        return Ok(Err(StepFault::NotPrepared {
             region: id,
-            index: made.applied + 1,
+            index,
             source,
             commit,
         }));
     }
     if !made.state.range.is_next_to(&taken.state.range) {
-        return Ok(Some(StepFault::NotNext {
+        return Ok(Err(StepFault::NotNext {
             region: id,
-            index: made.applied + 1,
+            index,
             source,
             commit,
             target_range: made.state.range,
             source_range: taken.state.range,
         }));
     }
-    join(regions, id, made, source, taken)
+    let version = join(regions, id, made, source, taken)?;
+    Ok(Ok(answered(id, index, version)))
 }
 
-/// The region takes over the source, which was taken out.
-fn join(
-    regions: &mut Regions,
-    id: u64,
-    made: Made,
-    source: u64,
-    taken: Made,
-) -> Result<Option<StepFault>, NoMemory>
-    requires low { IsLow id made }
-    requires version { taken.state.epoch.version < 2 ^ 62 }
-    requires next { is_next_to made.state.range taken.state.range ≡ true }
-    ensures { IfOk result (λ fault. told fault (seen regions.new) ≡ Moved (with_region (with_region (seen regions.old) source (as_merged taken id)) id (reshaped made (committed made.state taken.state)))) }
+/// The effect of the entry at the index, which reshaped its region.
+fn answered<'a>(region: u64, index: u64, version: u64) -> Effect<'a>
+    ensures { (f : ByRegion) → gained f result ≡ done f region index version }
 {
-    let Made {
-        mut state,
-        applied,
-        origin,
-        reshapings,
-    } = recorded(made)?;
-    let Made {
-        state: mut source_state,
-        applied: source_applied,
-        origin: source_origin,
-        reshapings: source_reshapings,
-    } = taken;
-    state.exec_commit(&mut source_state)?;
-    regions.put(
-        source,
-        Made {
-            state: source_state,
-            applied: source_applied,
-            origin: source_origin,
-            reshapings: source_reshapings,
-        },
-    )?;
-    regions.put(
-        id,
-        Made {
-            state,
-            applied,
-            origin,
-            reshapings,
-        },
-    )?;
-    Ok(None)
+    Effect {
+        region,
+        index,
+        ops: &[],
+        reply: Some(Reply::Done(version)),
+    }
 }
 
+/// An accepted entry that reshapes the region, which was taken out.
 #[tactic(auto, using(crate::proofs::Updates::put_over))]
-fn accept(
+fn accept<'a>(
     indexed: &IndexedStore<'_>,
     regions: &mut Regions,
     id: u64,
     made: Made,
-    line: Line<'_>,
-) -> Result<Option<StepFault>, NoMemory>
+    action: Action<'a>,
+) -> Result<Result<Effect<'a>, StepFault>, NoMemory>
     requires low { IsLow id made }
     requires all { IsAllLow (seen regions.old) }
     requires out { seen regions.old id ≡ None }
-    requires formed { IsFormed (line_entry line).body }
-    requires accepted { verdict made.state (line_entry line) ≡ verdicts.Accept }
-    ensures { IfOk result (λ fault. forget (accept indexed.now (bare (with_region (seen regions.old) id made)) id made (line_entry line.entry).body) ≡ told fault (seen regions.new)) }
+    requires formed { IsFormed (body_for action) }
+    requires good { IsGood made.state (body_for action) }
+    requires reshapes { is_plain (body_for action) ≡ false }
+    ensures { IfOk result (λ r. accept indexed.now (bare (with_region (seen regions.old) id made)) id made (body_for action.entry) ≡ came (seen regions.new) r) }
 {
-    match line {
-        Line::Own(entry) => match &entry.body {
-            Body::Empty => Ok(pass(regions, id, made)?),
-            Body::Write(_) => Ok(pass(regions, id, made)?),
-            Body::Split { side, ids, keys } => Ok(split(regions, id, made, *side, ids, keys)?),
-            Body::Prepare { target } => Ok(prepare(regions, id, made, *target)?),
-            Body::Commit {
-                source,
-                commit: at,
-                ..
-            } => Ok(commit(indexed, regions, id, made, *source, *at)?),
-            Body::Rollback { .. } => Ok(roll_back(regions, id, made)?),
-            Body::Conf { change } => Ok(change_peers(indexed, regions, id, made, change)?),
-        },
-        Line::Carried(entry) => match &entry.body {
-            CarriedBody::Empty => Ok(pass(regions, id, made)?),
-            CarriedBody::Write(_) => Ok(pass(regions, id, made)?),
-            CarriedBody::Prepare { target } => Ok(prepare(regions, id, made, *target)?),
-        },
+    let index = made.applied + 1;
+    match action {
+        Action::Nothing | Action::Writes(_) => unreachable!(),
+        Action::Splits { side, ids, keys } => {
+            let version = split(regions, id, made, side, ids, keys)?;
+            Ok(Ok(answered(id, index, version)))
+        }
+        Action::Merges { source, commit, .. } => merge(indexed, regions, id, made, source, commit),
+        Action::Turns(by) => {
+            let version = turn(indexed, regions, id, made, by)?;
+            Ok(Ok(answered(id, index, version)))
+        }
     }
 }
 
-#[tactic(auto, using(crate::proofs::Verdicts::refused, crate::proofs::Updates::put_over, crate::proofs::Verdicts::broken, crate::proofs::Verdicts::accept_is))]
-fn apply(
-    indexed: &IndexedStore<'_>,
-    regions: &mut Regions,
-    id: u64,
-    made: Made,
-    line: Line<'_>,
-) -> Result<Option<StepFault>, NoMemory>
-    requires low { IsLow id made }
-    requires all { IsAllLow (seen regions.old) }
-    requires out { seen regions.old id ≡ None }
-    requires formed { IsFormed (line_entry line).body }
-    ensures { IfOk result (λ fault. forget (step_by (verdict made.state (line_entry line.entry)) indexed.now (bare (with_region (seen regions.old) id made)) id made (line_entry line.entry)) ≡ told fault (seen regions.new)) }
+/// The effect of an entry that leaves its region as it is, but for the index.
+fn passed_over<'a>(id: u64, made: &Made, next_entry: NextEntry<'a>) -> Result<Effect<'a>, NoMemory>
+    requires { made.now.applied < 2 ^ 62 }
+    ensures { IfOk result (λ t. (f : ByRegion) → gained f t ≡ passes_to f id made.now next_entry.entry.verdict (line_entry next_entry.entry.line).body) }
 {
-    let verdict = verdict_of(&made.state, line);
-    if is_accept(verdict) {
-        return Ok(accept(indexed, regions, id, made, line)?);
-    }
-    if is_bad(verdict) {
-        return Ok(Some(StepFault::BadRollback {
-            region: id,
-            index: made.applied + 1,
-            commit: commit_in(line),
-            mode: made.state.mode,
-        }));
-    }
-    Ok(pass(regions, id, made)?)
+    let action = next_entry.line.action();
+    Ok(Effect {
+        region: id,
+        index: made.applied + 1,
+        ops: written(next_entry.verdict, action),
+        reply: reply_to(next_entry.verdict, action, &made.state)?,
+    })
 }
 
-/// The region's next entry, applied.
-#[tactic(auto, using(crate::proofs::Updates::put_back, crate::proofs::Updates::rest_low, crate::proofs::Updates::out_is_out))]
-pub fn step(
+/// What an entry with the verdict writes.
+fn written<'a>(verdict: Verdict, action: Action<'a>) -> &'a [Op]
+    ensures { result.now ≡ written verdict (body_for action.entry) }
+{
+    match verdict {
+        Verdict::Accept => ops_in(action),
+        _ => &[],
+    }
+}
+
+/// Applies the region's next entry.
+pub fn step<'a>(
     indexed: &IndexedStore<'_>,
-    standing: &Carriers,
     regions: &mut Regions,
     id: u64,
-) -> Result<Option<StepFault>, NoMemory>
-    requires standing { carriers standing.now ≡ standing_for indexed.now (bare (seen regions.old)) (ids_of indexed.now) }
+    next_entry: NextEntry<'a>,
+) -> Result<Result<Effect<'a>, StepFault>, NoMemory>
     requires low { IsAllLow (seen regions.old) }
-    requires formed { IsFormedStore indexed.now }
-    ensures { IfOk result (λ fault. forget (step indexed.now (bare (seen regions.old)) id) ≡ told fault (seen regions.new)) }
+    requires next_entry { IsNextEntry indexed.now (seen regions.old) id next_entry }
+    ensures { IfOk result (λ r. step indexed.now (bare (seen regions.old)) id ≡ came (seen regions.new) r) }
 {
-    let Some(found) = regions.get(id) else {
-        return Ok(None);
-    };
-    let Some(line) = next(indexed, standing, regions, id, found) else {
-        return Ok(None);
-    };
-    if passes(&found.state, line) {
+    let action = next_entry.line.action();
+    if passes(next_entry.verdict, action) {
+        let Some(made) = regions.get(id) else {
+            unreachable!()
+        };
+        let effect = passed_over(id, made, next_entry)?;
         regions.pass(id);
-        return Ok(None);
+        return Ok(Ok(effect));
     }
     let Some(made) = regions.take(id) else {
-        return Ok(None);
+        unreachable!()
     };
-    Ok(apply(indexed, regions, id, made, line)?)
+    match next_entry.verdict {
+        Verdict::Accept => accept(indexed, regions, id, made, action),
+        _ => Ok(Err(StepFault::BadRollback {
+            region: id,
+            index: made.applied + 1,
+            commit: commit_in(action),
+            mode: made.state.mode,
+        })),
+    }
 }

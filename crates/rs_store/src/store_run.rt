@@ -1,9 +1,9 @@
 ghost use Rattle.std.specs.Prelude.{◌≡◌, ℕ, ◌+◌, ◌<◌, ◌≤◌, ◌^◌, Option, Some, None, IfOk, OnOk};
 ghost use Rattle.std.specs.Option.{option_copied};
-ghost use Rattle.rs_store.specs.Stores.{ids_of, after, last, opening};
+ghost use Rattle.rs_store.specs.Stores.{after, entries_in, last, opening};
 ghost use Rattle.rs_store.specs.Walks.{IsWalk, store_of, made_by};
 ghost use Rattle.rs_store.specs.Formed.{IsFormedOne};
-ghost use Rattle.rs_store.specs.Runs.{seen, bare, forget, told, Moved, IsAllLow, IsFormedStore};
+ghost use Rattle.rs_store.specs.Runs.{seen, bare, forget, told, Moved, IsAllLow};
 ghost use Rattle.rs_store.specs.Ends.{first_of, waits, is_unborn, first_unborn, fault_of, fault_at_end};
 
 use crate::counts::entries_in;
@@ -11,7 +11,7 @@ use crate::fault::{StepFault, StoreFault};
 use crate::indexed_store::IndexedStore;
 use crate::readiness::stands;
 use crate::regions::{Made, Regions};
-use crate::walk::Walk;
+use crate::walk::{Advance, Walk};
 use rs_entry::{Entry, Log, Store};
 use rs_key::NoMemory;
 use std::alloc::Global;
@@ -66,7 +66,7 @@ fn first_unborn(regions: &Regions, logs: &[Log]) -> Option<StoreFault>
     None
 }
 
-/// What a store's run comes to that ended with this fault, or none, and these regions.
+/// Returns what a store's run comes to that ended with this fault, or none, and these regions.
 fn fault_of(
     indexed: &IndexedStore<'_>,
     regions: &Regions,
@@ -84,7 +84,7 @@ fn fault_of(
     first_unborn(regions, indexed.store().logs.as_slice())
 }
 
-/// What a store comes to in the canonical order.
+/// The result of a store's canonical order.
 #[derive(Drop)]
 pub struct StoreRun<'a> {
     pub indexed: IndexedStore<'a>,
@@ -94,27 +94,21 @@ pub struct StoreRun<'a> {
     pub fault: Option<StoreFault>,
 }
 
-/// The canonical order's first steps, at most so many.
+/// Takes the canonical order's first steps, at most `count` of them.
 fn walk_on(alloc: Global, walk: &mut Walk<'_>, count: usize) -> Result<Option<StepFault>, NoMemory>
     requires walk { IsWalk walk.old }
-    requires formed { IsFormedStore (store_of walk.old) }
     requires first { walk.old.steps ≡ 0 }
     requires opening { made_by walk.old ≡ (opening (store_of walk.old)).region }
-    requires few { count < 2 ^ 50 }
+    requires few { count ≤ entries_in (store_of walk.old) }
     ensures value { IfOk result (λ fault. forget (after (store_of walk.old) count) ≡ told fault (made_by walk.new)) }
     ensures walk { IfOk result (λ fault. fault ≡ None → IsAllLow (made_by walk.new)) }
     ensures store { IfOk result (λ _. store_of walk.new ≡ store_of walk.old) }
 {
     for place in 0..count {
-        let Some(id) = walk.least_ready() else {
-            return Ok(None);
-        };
-        if walk.pass_next(id) {
-            continue;
-        }
-        match walk.apply_next(alloc, id)? {
-            None => {}
-            Some(fault) => return Ok(Some(fault)),
+        match walk.advance(alloc)? {
+            Advance::Took(_) => {}
+            Advance::Rests => return Ok(None),
+            Advance::Broke(fault) => return Ok(Some(fault)),
         }
     }
     Ok(None)

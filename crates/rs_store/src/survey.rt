@@ -10,11 +10,12 @@ ghost use Rattle.rs_store.specs.Stores.{add_all, ids_in, ids_in_log, ids_of};
 
 use crate::ids::{add_all, add_boots};
 use crate::place_map::PlaceMap;
-use rs_entry::{Body, Entry, Log, Store};
+use rs_entry::{Entry, Log, Store};
 use rs_key::NoMemory;
+use rs_region::{Action, action_of};
 use std::alloc::Global;
 
-/// What the logs of a store tell of all its regions.
+/// The survey of a store's logs, over all its regions.
 #[derive(Drop)]
 pub struct Survey {
     /// The regions that the store may have, by id.
@@ -30,11 +31,11 @@ fn add_entry(survey: &mut Survey, entry: &Entry) -> Result<(), NoMemory>
     ensures awaited { OnOk result (known survey.new.awaited ≡ await_body (known survey.old.awaited) entry.now.body) }
     ensures merges { OnOk result (survey.new.merges ≡ (survey.old.merges || commits entry.now)) }
 {
-    match &entry.body {
-        Body::Split { ids, .. } => add_all(&mut survey.ids, ids.as_slice()),
-        Body::Commit { source, commit, .. } => {
+    match action_of(&entry.body) {
+        Action::Splits { ids, .. } => add_all(&mut survey.ids, ids.as_slice()),
+        Action::Merges { source, commit, .. } => {
             survey.merges = true;
-            survey.awaited.put(*source, *commit, 0)
+            survey.awaited.put(source, commit, 0)
         }
         _ => Ok(()),
     }

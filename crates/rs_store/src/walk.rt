@@ -1,24 +1,28 @@
 ghost use Rattle.std.specs.Prelude.{◌≡◌, ◌+◌, ◌<◌, ◌^◌, None, true, false, IfOk, IfSome, IfNone};
 ghost use Rattle.std.specs.Option.{option_map};
 ghost use Rattle.rs_store.specs.Stores.{opening, ids_of, entries_in, is_ready, least_ready, step};
-ghost use Rattle.rs_store.specs.Runs.{seen, bare, forget, told, next_in, line_entry, IsFormedStore};
+ghost use Rattle.rs_store.specs.Runs.{seen, bare, next_in, line_entry};
 ghost use Rattle.rs_store.specs.Formed.{IsFormedOne};
-ghost use Rattle.rs_store.specs.Walks.{IsWalk, Goes, Keeps, Leads, store_of, made_by, taken};
+ghost use Rattle.rs_store.specs.Places.{known};
+ghost use Rattle.rs_store.specs.Cursor.{MayPass};
+ghost use Rattle.rs_store.specs.Walks.{IsNextEntry, IsWalk, Goes, Keeps, Leads, store_of, made_by, taken};
 
 use crate::carriers::Carriers;
 use crate::counts::entries_in;
 use crate::cursor::{is_calm, may_pass, may_stay, ready_from};
-use crate::effect::{Effect, effect_of};
+use crate::effect::Effect;
 use crate::fault::StepFault;
 use crate::indexed_store::IndexedStore;
+use crate::next_entry::{NextEntry, next_entry_of};
 use crate::opening::opening;
 use crate::place_map::PlaceMap;
-use crate::readiness::{Line, is_ready, look, next, stands};
+use crate::readiness::{is_ready, look, next, stands};
 use crate::regions::Regions;
 use crate::step::step;
 use crate::survey::Survey;
 use rs_entry::Store;
 use rs_key::NoMemory;
+use rs_region::Line;
 use std::alloc::Global;
 
 /// A walk through an order of a store, step by step.
@@ -35,7 +39,7 @@ pub struct Walk<'a> {
     steps: usize,
 }
 
-/// What an advance of a walk came to.
+/// The result of an advance of a walk.
 #[derive(Drop)]
 pub enum Advance<'a> {
     /// The least region that was ready took its next entry.
@@ -55,7 +59,7 @@ pub struct Arrived {
 }
 
 impl<'a> Walk<'a> {
-    /// The walk's beginning, with the regions that are there from the start.
+    /// Returns the walk's beginning, with the regions that are there from the start.
     pub fn new(alloc: Global, store: &'a Store) -> Result<Walk<'a>, NoMemory>
         requires { IsFormedOne store.now }
         ensures walk { IfOk result (λ w. IsWalk w) }
@@ -81,7 +85,7 @@ impl<'a> Walk<'a> {
         })
     }
 
-    /// The least region that is ready; none where none is.
+    /// Returns the least region that is ready; `None` if none is.
     pub fn least_ready(&mut self) -> Option<u64>
         requires walk { IsWalk self.old }
         requires few { self.old.steps < 2 ^ 50 }
@@ -108,7 +112,7 @@ impl<'a> Walk<'a> {
         Some(id)
     }
 
-    /// The region's next entry, where it is at hand.
+    /// Returns the region's next entry, if the region's own log or a commit has it.
     pub fn line(&self, id: u64) -> Option<Line<'a>>
         requires walk { IsWalk self.now }
         requires few { self.now.steps < 2 ^ 50 }
@@ -120,65 +124,54 @@ impl<'a> Walk<'a> {
         next(&self.indexed, &self.standing, &self.regions, id, made)
     }
 
-    /// Passes the region's next entry where that is one of its own log and changes nothing for others. Otherwise nothing
-    /// has changed.
-    pub(crate) fn pass_next(&mut self, id: u64) -> bool
+    /// Passes the region's next entry, which changes nothing for others.
+    fn pass_next(&mut self, id: u64, next_entry: NextEntry<'a>) -> Result<Advance<'a>, NoMemory>
         requires walk { IsWalk self.old }
         requires few { self.old.steps < 2 ^ 50 }
-        requires formed { IsFormedStore (store_of self.old) }
         requires ready { is_ready (store_of self.old) (bare (made_by self.old)) id ≡ true }
-        ensures step { result ≡ true → forget (step (store_of self.old) (bare (made_by self.old)) id) ≡ told None (made_by self.new) }
-        ensures walk { result ≡ true → IsWalk self.new }
-        ensures steps { result ≡ true → self.new.steps ≡ self.old.steps + 1 }
-        ensures store { store_of self.new ≡ store_of self.old }
-        ensures kept { result ≡ false → self.new ≡ self.old }
+        requires next_entry { IsNextEntry (store_of self.old) (made_by self.old) id next_entry }
+        requires may { MayPass (store_of self.old) (known self.old.awaited) (made_by self.old) id }
+        ensures walk { IfOk result (λ a. Keeps self.old self.new a) }
+        ensures goes { IfOk result (λ a. Goes (step (store_of self.old) (bare (made_by self.old)) id) (made_by self.new) a) }
     {
-        if !may_pass(&self.indexed, &self.awaited, &self.regions, id) {
-            return false;
-        }
         self.steps += 1;
-        self.regions.pass(id);
-        true
+        match step(&self.indexed, &mut self.regions, id, next_entry)? {
+            Ok(effect) => Ok(Advance::Took(effect)),
+            Err(fault) => Ok(Advance::Broke(fault)),
+        }
     }
 
-    /// The next entry of the region, which is ready, applied. After NoMemory the walk can't go on.
-    pub(crate) fn apply_next(
+    /// Applies the region's next entry, whatever it changes. After NoMemory the walk can't go on.
+    fn apply_next(
         &mut self,
         alloc: Global,
         id: u64,
-    ) -> Result<Option<StepFault>, NoMemory>
+        next_entry: NextEntry<'a>,
+    ) -> Result<Advance<'a>, NoMemory>
         requires walk { IsWalk self.old }
         requires few { self.old.steps < 2 ^ 50 }
-        requires formed { IsFormedStore (store_of self.old) }
         requires ready { is_ready (store_of self.old) (bare (made_by self.old)) id ≡ true }
-        ensures step { IfOk result (λ fault. forget (step (store_of self.old) (bare (made_by self.old)) id) ≡ told fault (made_by self.new)) }
-        ensures walk { IfOk result (λ fault. fault ≡ None → IsWalk self.new) }
-        ensures store { IfOk result (λ _. store_of self.new ≡ store_of self.old) }
-        ensures steps { IfOk result (λ _. self.new.steps ≡ self.old.steps + 1) }
+        requires next_entry { IsNextEntry (store_of self.old) (made_by self.old) id next_entry }
+        ensures walk { IfOk result (λ a. Keeps self.old self.new a) }
+        ensures goes { IfOk result (λ a. Goes (step (store_of self.old) (bare (made_by self.old)) id) (made_by self.new) a) }
     {
-        let calm = is_calm(
-            &self.indexed,
-            &self.standing,
-            &self.awaited,
-            &self.regions,
-            id,
-        );
+        let calm = is_calm(&self.indexed, &self.awaited, &self.regions, id, next_entry);
         self.steps += 1;
-        match step(&self.indexed, &self.standing, &mut self.regions, id)? {
-            None => {}
-            Some(fault) => return Ok(Some(fault)),
-        }
+        let effect = match step(&self.indexed, &mut self.regions, id, next_entry)? {
+            Ok(effect) => effect,
+            Err(fault) => return Ok(Advance::Broke(fault)),
+        };
         look(&mut self.indexed, &self.regions, id)?;
         let lone = stands(&self.indexed, &self.regions, id).is_none();
         if may_stay(calm, lone) {
-            return Ok(None);
+            return Ok(Advance::Took(effect));
         }
         self.cursor = 0;
         self.standing = Carriers::of(alloc, &self.indexed, &self.regions)?;
-        Ok(None)
+        Ok(Advance::Took(effect))
     }
 
-    /// The most steps that the canonical order has.
+    /// Returns the most steps that the canonical order has.
     pub fn most(&self) -> usize
         requires { IsWalk self.now }
         ensures { result ≡ entries_in (store_of self.now) }
@@ -199,7 +192,7 @@ impl<'a> Walk<'a> {
         self.take(alloc, id)
     }
 
-    /// Whether the region is ready.
+    /// Returns whether the region is ready.
     pub fn is_ready(&self, id: u64) -> bool
         requires walk { IsWalk self.now }
         requires few { self.now.steps < 2 ^ 50 }
@@ -216,17 +209,17 @@ impl<'a> Walk<'a> {
         ensures walk { IfOk result (λ a. Keeps self.old self.new a) }
         ensures goes { IfOk result (λ a. Goes (step (store_of self.old) (bare (made_by self.old)) id) (made_by self.new) a) }
     {
-        let effect = effect_of(&self.indexed, &self.standing, &self.regions, id)?;
-        if self.pass_next(id) {
-            return Ok(Advance::Took(effect));
+        let Some(next_entry) = next_entry_of(&self.indexed, &self.standing, &self.regions, id)
+        else {
+            unreachable!()
+        };
+        if may_pass(&self.indexed, &self.awaited, &self.regions, id, next_entry) {
+            return self.pass_next(id, next_entry);
         }
-        match self.apply_next(alloc, id)? {
-            None => Ok(Advance::Took(effect)),
-            Some(fault) => Ok(Advance::Broke(fault)),
-        }
+        self.apply_next(alloc, id, next_entry)
     }
 
-    /// The regions where the walk stands.
+    /// Returns the regions where the walk stands.
     pub fn finish(self) -> Arrived
         requires { IsWalk self }
         ensures ids { result.ids.items ≡ ids_of (store_of self.entry) }

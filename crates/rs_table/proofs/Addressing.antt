@@ -46,14 +46,6 @@ on_address input place a o = ap row_address o.here
 pub on_store : (input : Input) (place a : ℕ) (o : On input place a) → (address_of input a).0 ≡ o.store.id
 on_store input place a o = ap (λ p. p.0) (on_address input place a o) ∙ o.same
 
--- two addresses of one store are on one store
-pub on_both : (input : Input) (place a b : ℕ) → is_on input place a ≡ true → is_on input place b ≡ true → (address_of input a).0 ≡ (address_of input b).0
-on_both input place a b oa ob =
-    let x = on_of input place a oa in
-    let y = on_of input place b ob in
-    let one : x.store ≡ y.store = cc (x.there, y.there) in
-    on_store input place a x ∙ (ap (λ s. s.id) one ∙ sym (on_store input place b y))
-
 row_there : (rows : List Row) (a : ℕ) → a < length rows → (r : Row) × (slice_get rows a ≡ Some r)
 row_there [] a h = absurd (omega arith)
 row_there (x ∷ xs) zero h = (x, refl)

@@ -1,6 +1,6 @@
 -- A cut that grows by what is told, and the greatest one.
 use Rattle.std.proofs.Common.{◌≡◌, ℕ, zero, suc, ◌+◌, ◌-◌, ◌≤◌, ◌<◌, Bool, true, false, cond, List, [], ◌∷◌, ◌++◌, set, length, get_or, Option, Some, None, refl, ap, sym, ◌∙◌, arith, ◌⊎◌, subst, inl, inr, get_or-set_same, get_or-set_other}
-use Rattle.std.specs.Prelude.{leb, ltb, ◌==◌, ◌&&◌, ◌||◌, if◌then◌else◌}
+use Rattle.std.specs.Prelude.{Err, Ok, OnErr, OnOk, Result, leb, ltb, ◌==◌, ◌&&◌, ◌||◌, if◌then◌else◌}
 use mathlib.Core.Path.{fun_ext}
 use Rattle.std.proofs.lemmas.Bool.{both_ways, cases_eq, cases_lt, and_parts, and_from, or_cases, eq-eqb, ne_eqb, eqb-true, leb-true, le-leb, lt-ltb}
 use Rattle.rs_entry.specs.declared.input.Input.{Input}
@@ -237,6 +237,37 @@ none_finished input place n a k h on more =
     let x = open_more input place n a on (omega (arith, more)) in
     let y = open_more input place (raised n a) a on (let e = raised_same n a in omega (arith, e, more)) in
     omega (arith, m, x, y)
+
+-- the same of a cut that a call has left
+module _ (input : Input) (place : ℕ) (n : Cut) (input_after : Input) (place_after : ℕ) (after : Cut) (a : ℕ) (next : IsNext input place n a)
+    (same_input : input_after ≡ input) (same_place : place_after ≡ place) (is : after ≡ raised n a) where
+  moved : open_below input_after place_after after (count_of input_after) ≡ open_below input place (raised n a) (count_of input)
+  moved = ap (λ (i : Input). open_below i place_after after (count_of i)) same_input ∙ (ap (λ (k : ℕ). open_below input k after (count_of input)) same_place ∙ ap (λ (m : Cut). open_below input place m (count_of input)) is)
+
+  now : after a ≡ n a + 1
+  now = ap (λ (m : Cut). m a) is ∙ raised_same n a
+
+  total : length (reshapings_of input_after a) ≡ length (reshapings_of input a)
+  total = ap (λ (i : Input). length (reshapings_of i a)) same_input
+
+  pub finished_by : after a ≡ length (reshapings_of input_after a) → open_below input_after place_after after (count_of input_after) + 1 ≡ open_below input place n (count_of input)
+  finished_by last =
+      let f = one_finished input place n a (count_of input) (on_below input place a next.on) next.on (omega (arith, last, now, total)) in
+      omega (arith, f, moved)
+
+  pub unfinished_by : (after a ≡ length (reshapings_of input_after a) → ⊥) → open_below input_after place_after after (count_of input_after) ≡ open_below input place n (count_of input)
+  unfinished_by more = elim (cases_eq (after a) (length (reshapings_of input_after a))) [
+    | inl e ↦ absurd (more e)
+    | inr ne ↦
+        (let m = next.more in
+        let f = none_finished input place n a (count_of input) (on_below input place a next.on) next.on (omega (arith, m, ne, now, total)) in
+        omega (arith, f, moved))
+  ]
+
+-- either way of a call
+pub either : {A E P Q R : Type 0} (r : Result A E) → OnOk r P → OnErr r Q → (P → R) → (Q → R) → R
+either (Ok x) p q f g = f p
+either (Err e) p q f g = g q
 
 -- ---- reading
 

@@ -23,8 +23,11 @@ pub mod Full
 pub mod RangeSteps
 pub mod StepRanges
 pub mod CutLaws
+pub mod Sizes
+pub mod WholeCuts
 pub mod Owners
 mod WorkedCases
 pub mod RowOrder
 pub mod Spans
 pub mod TableLists
+pub mod Turning

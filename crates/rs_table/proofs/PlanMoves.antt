@@ -20,6 +20,7 @@ use Rattle.rs_table.proofs.Moving.{r}
 use Rattle.rs_table.proofs.Openings.{opens}
 use Rattle.rs_table.proofs.PlanReshapings.{few_of}
 use Rattle.rs_table.proofs.StepTables.{is_ready, is_there, moved_table}
+use Rattle.rs_table.proofs.WholeCuts.{grown_is_next, stuck_is_full}
 
 few : (input : Input) → WellFormed input → check input ≡ None → (a : ℕ) → length (reshapings_of input a) < 2 ^ 62
 few input well lawful a = elim (cases_lt a (count_of input)) [
@@ -55,4 +56,6 @@ plan_moves input place well lawful = record {
   );
   moves = moved input well lawful place;
   greatest = λ told n known cut all stuck. is_greatest input well lawful place told n cut all stuck;
+  full = stuck_is_full input well lawful place;
+  only = grown_is_next input well lawful place;
 }

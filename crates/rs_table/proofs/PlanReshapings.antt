@@ -1,7 +1,7 @@
 -- The reshapings of an address of a lawful plan: they rise, and how many are at most an index.
 use Rattle.std.proofs.Common.{◌≡◌, ℕ, zero, suc, ◌+◌, ◌≤◌, ◌<◌, Bool, true, false, cond, List, [], ◌∷◌, ◌++◌, length, Some, None, refl, ap, sym, arith, subst, inl, inr}
 use Rattle.std.specs.Prelude.{leb, slice_get, ◌&&◌}
-use Rattle.std.specs.List.{AllByRecursion}
+use Rattle.std.specs.List.{AllByRecursion, filter}
 use Rattle.rs_region.specs.Verdicts.{verdict}
 use Rattle.rs_region.specs.declared.state.RegionState.{RegionState}
 use Rattle.rs_region.proofs.CutParts.{all_map}
@@ -82,6 +82,13 @@ last_rises : (script : Script) (store : Store) → Tells script store → Begins
 last_rises script store tells begins h e =
     last_has script store tells begins AllRise (opening_rises store) (λ g k id sound w st old. step_rises script store tells g k id w st old) h e
 
+count_few : (index : ℕ) (xs : List ℕ) → count_to index xs ≤ length xs
+count_few index [] = omega arith
+count_few index (x ∷ xs) = go (leb x index) (count_few index xs) where
+  go : (b : Bool) → count_to index xs ≤ length xs → length (cond b (x ∷ filter (λ i. leb i index) xs) (filter (λ i. leb i index) xs)) ≤ suc (length xs)
+  go true r = omega (arith, r)
+  go false r = omega (arith, r)
+
 -- ---- of an address
 
 module _ (input : Input) (well : WellFormed input) (lawful : check input ≡ None) (a : ℕ) (within : a < count_of input) where
@@ -140,6 +147,9 @@ module _ (input : Input) (well : WellFormed input) (lawful : check input ≡ Non
     all_counted : (xs : List ℕ) → AllByRecursion (λ i. i ≤ stop_of input a) xs → count_to (stop_of input a) xs ≡ length xs
     all_counted [] w = refl
     all_counted (x ∷ xs) w = let t : leb x (stop_of input a) ≡ true = (let l = w.0 in grind arith) in rw t (let r : count_to (stop_of input a) xs ≡ length xs = all_counted xs w.1 in omega arith)
+
+pub few_by : (input : Input) (a index : ℕ) → reshaped_by input a index ≤ length (reshapings_of input a)
+few_by input a index = count_few index (reshapings_of input a)
 
 pub numbers_grow : (input : Input) (a i j : ℕ) → i ≤ j → reshaped_by input a i ≤ reshaped_by input a j
 numbers_grow input a i j h = count_grows i j (reshapings_of input a) h

@@ -13,12 +13,12 @@ with_state s [] = s ∷ []
 with_state s (r ∷ rs) =
     if ltb r.region s.region then r ∷ with_state s rs else (if r.region == s.region then s ∷ rs else s ∷ r ∷ rs)
 
--- where it is put: behind the regions of lesser id
+-- the place where a region is put: behind those of lesser id
 abbrev pub place_of : ℕ → List RegionState → ℕ
 place_of id [] = 0
 place_of id (r ∷ rs) = if ltb r.region id then suc (place_of id rs) else 0
 
--- and whether the region stands there
+-- the region stands at its place
 abbrev pub is_there : ℕ → List RegionState → Bool
 is_there id [] = false
 is_there id (r ∷ rs) = if ltb r.region id then is_there id rs else r.region == id
@@ -28,6 +28,7 @@ abbrev pub with_states : List RegionState → List RegionState → List RegionSt
 with_states [] rows = rows
 with_states (s ∷ ss) rows = with_states ss (with_state s rows)
 
+-- the target with the source's range, and the source as merged
 abbrev pub joined : RegionState → Option RegionState → List RegionState
 joined s None = []
 joined s (Some u) = committed s u ∷ merged_into u s.region ∷ []

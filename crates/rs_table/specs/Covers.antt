@@ -21,6 +21,7 @@ has_key key s = is_unmerged s.mode && holds s.range key
 abbrev pub is_held : List RegionState → List ℕ → Bool
 is_held rows key = list_any (has_key key) rows
 
+-- a boot region of the store holds the key
 abbrev pub boots_hold : Option Store → List ℕ → Bool
 boots_hold None key = false
 boots_hold (Some store) key = list_any (λ b. holds b.range key) store.regions
@@ -29,6 +30,7 @@ boots_hold (Some store) key = list_any (λ b. holds b.range key) store.regions
 abbrev pub is_boot_key : Input → ℕ → List ℕ → Bool
 is_boot_key input place key = boots_hold (slice_get input.stores place) key
 
+-- the rows' unmerged regions hold the keys of the boot regions, each exactly once
 pub record AreWhole (input : Input) (place : ℕ) (rows : List RegionState) : Type 0 where
   -- the ranges of two regions that aren't merged are apart
   pub apart : (s t : RegionState) → IsAmong s rows → IsAmong t rows → (s.region ≡ t.region → ⊥) → is_unmerged s.mode ≡ true → is_unmerged t.mode ≡ true → Apart s.range t.range

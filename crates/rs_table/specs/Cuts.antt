@@ -1,5 +1,5 @@
 -- Cuts of a store's reshapings, and the greatest of what was told.
-use Rattle.std.specs.Prelude.{◌≡◌, ℕ, zero, suc, ◌≤◌, ◌==◌, leb, Bool, true, false, ◌&&◌, Option, Some, None, length, slice_get, position}
+use Rattle.std.specs.Prelude.{◌≡◌, ℕ, zero, suc, ◌+◌, ◌≤◌, ◌==◌, leb, Bool, true, false, ◌&&◌, Option, Some, None, length, slice_get, position}
 use Rattle.std.specs.Option.{option_map}
 use Rattle.rs_entry.specs.declared.entry.Body.{Body}
 use Rattle.rs_entry.specs.declared.entry.Body.TheVariants as body
@@ -10,10 +10,11 @@ use Rattle.rs_check.specs.declared.plan.Maker.{Maker}
 use Rattle.rs_check.specs.declared.plan.Maker.TheVariants as makers
 use Rattle.rs_check.specs.declared.rows.Row.{Row}
 use Rattle.rs_check.specs.Plans.{rows_of, is_at, address_of, maker_of, reshapings_of}
-use Rattle.rs_check.specs.Values.{entry_at, reshaped_by}
+use Rattle.rs_check.specs.Values.{count_of, entry_at, reshaped_by}
 
 -- ---- addresses of a store
 
+-- the row is one of the store
 abbrev pub is_of : Option Store → Option Row → Bool
 is_of (Some store) (Some row) = row.store == store.id
 is_of store row = false
@@ -28,6 +29,7 @@ beside input a region = position (is_at (address_of input a).0 region) (rows_of 
 
 -- ---- reshapings
 
+-- the index; the one before a log's first if there is none
 abbrev pub or_five : Option ℕ → ℕ
 or_five None = 5
 or_five (Some index) = index
@@ -49,6 +51,7 @@ Reshaping = ℕ × ℕ
 abbrev pub at_index : Input → ℕ → ℕ → Reshaping
 at_index input index a = (a, reshaped_by input a index)
 
+-- the reshaping that made the region, if a split did
 abbrev pub birth_in : Input → Maker → Option Reshaping
 birth_in input makers.Boot = None
 birth_in input (makers.Split parent index) = Some (at_index input index parent)
@@ -57,6 +60,7 @@ birth_in input (makers.Split parent index) = Some (at_index input index parent)
 unfoldable pub birth_of : Input → ℕ → Option Reshaping
 birth_of input a = birth_in input (maker_of input a)
 
+-- the source and the commit's index, if the body commits a merge
 abbrev pub merge_in : Body → Option (ℕ × ℕ)
 merge_in (body.Commit source commit carried) = Some (source, commit)
 merge_in b = None
@@ -66,6 +70,7 @@ abbrev pub merge_by : Option Entry → Option (ℕ × ℕ)
 merge_by None = None
 merge_by (Some e) = merge_in e.body
 
+-- the source's reshaping by its prepare, if the entry commits a merge
 abbrev pub prepare_by : Input → ℕ → Option (ℕ × ℕ) → Option Reshaping
 prepare_by input a None = None
 prepare_by input a (Some m) = option_map (at_index input m.1) (beside input a m.0)
@@ -80,11 +85,12 @@ prepare_of input a nth = prepare_by input a (merge_by (entry_of_nth input a nth)
 abbrev pub Cut : Type 0
 Cut = ℕ → ℕ
 
--- the cut covers the reshaping, where there is one to be covered
+-- the cut covers the reshaping, if there is one to be covered
 abbrev pub covers : Cut → Option Reshaping → Bool
 covers n None = true
 covers n (Some r) = leb r.1 (n r.0)
 
+-- a number of reshapings of each of the store's regions, with which each has what it needs
 pub record IsCut (input : Input) (place : ℕ) (n : Cut) : Type 0 where
   -- of the store's addresses alone, and of each at most as many as it has
   pub here : (a : ℕ) → is_on input place a ≡ false → n a ≡ 0
@@ -103,6 +109,7 @@ IsIn m n = (a : ℕ) → m a ≤ n a
 abbrev pub Telling : Type 0
 Telling = ℕ → ℕ → Bool
 
+-- each reshaping that the cut covers was told
 abbrev pub AllTold : Telling → Cut → Type 0
 AllTold told n = (a nth : ℕ) → 1 ≤ nth → nth ≤ n a → told a nth ≡ true
 
@@ -123,3 +130,14 @@ AreKnown input place told = (a nth : ℕ) → told a nth ≡ true → is_known i
 -- all reshapings of the store's addresses
 abbrev pub IsFull : Input → ℕ → Cut → Type 0
 IsFull input place n = (a : ℕ) → is_on input place a ≡ true → n a ≡ length (reshapings_of input a)
+
+-- ---- how much a cut covers
+
+-- how many reshapings of the first addresses
+abbrev pub size_below : Cut → ℕ → ℕ
+size_below n zero = 0
+size_below n (suc a) = size_below n a + n a
+
+-- how many reshapings the cut covers
+abbrev pub size_of : Input → Cut → ℕ
+size_of input n = size_below n (count_of input)

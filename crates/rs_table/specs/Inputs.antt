@@ -27,15 +27,19 @@ written = body.Write (op.Put (0x7a ∷ []) (0x31 ∷ []) ∷ [])
 abbrev pub carried_prepare : Carried
 carried_prepare = record { index = 6; epoch = record { conf_ver = 1; version = 1 }; body = carried.Prepare 2 }
 
+-- a boot region with these bounds and no peers
 abbrev pub boot : ℕ → Option (List ℕ) → Option (List ℕ) → Boot
 boot region start end = record { region = region; range = record { start = start; end = end }; peers = [] }
 
+-- a log with these entries
 abbrev pub log : ℕ → List Entry → Log
 log region entries = record { region = region; entries = entries }
 
+-- an input with one store
 abbrev pub one_store : List Boot → List Log → Input
 one_store regions logs = record { version = 1; stores = record { id = 1; regions = regions; logs = logs } ∷ [] }
 
+-- a region that splits in four and then writes
 abbrev pub split : Input
 split = one_store (boot 1 None None ∷ []) (log 1 (entry 6 split_in_four ∷ entry 7 written ∷ []) ∷ [])
 

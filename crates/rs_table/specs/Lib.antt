@@ -1,5 +1,6 @@
 pub mod Changes
 pub mod Covers
+pub mod CutViews
 pub mod Cuts
 pub mod Inputs
 pub mod Moves

@@ -11,9 +11,9 @@ use Rattle.rs_part.specs.Telling.{boot_states}
 use Rattle.rs_check.specs.Plans.{address_of, reshapings_of}
 use Rattle.rs_check.specs.Values.{region_of}
 use Rattle.rs_table.specs.Changes.{changes, with_states}
-use Rattle.rs_table.specs.Cuts.{AllTold, AreKnown, Cut, IsCut, IsGreatest, Telling, is_on, birth_of, prepare_of, covers, entry_of_nth, index_after}
+use Rattle.rs_table.specs.Cuts.{AllTold, AreKnown, Cut, IsCut, IsFull, IsGreatest, Telling, is_on, birth_of, prepare_of, covers, entry_of_nth, index_after}
 use Rattle.rs_table.specs.Rows.{IsTable, state_of}
-use Rattle.rs_table.specs.Tellings.{may_grow}
+use Rattle.rs_table.specs.Tellings.{can_follow, may_grow}
 
 -- the cut with one more reshaping of the address
 abbrev pub raised : Cut → ℕ → Cut
@@ -27,6 +27,12 @@ pub record IsNext (input : Input) (place : ℕ) (n : Cut) (a : ℕ) : Type 0 whe
   pub birth : covers n (birth_of input a) ≡ true
   pub prepare : covers n (prepare_of input a (n a + 1)) ≡ true
 
+-- the least address whose next reshaping makes a greater cut
+pub record IsLeastNext (input : Input) (place : ℕ) (n : Cut) (a : ℕ) : Type 0 where
+  pub grows : IsCut input place (raised n a)
+  pub least : (b : ℕ) → b < a → IsCut input place (raised n b) → ⊥
+
+-- both numbers of the region's epoch are below 2^62
 abbrev pub IsSmall : RegionState → Type 0
 IsSmall s = (s.epoch.version < 2 ^ 62) × (s.epoch.conf_ver < 2 ^ 62)
 
@@ -41,6 +47,7 @@ pub record IsReady (rows : List RegionState) (s : RegionState) (b : Body) : Type
   pub small : IsSmall s
   pub may : MayChange rows s b
 
+-- the states of the store's boot regions
 abbrev pub boots_of : Option Store → List RegionState
 boots_of None = []
 boots_of (Some store) = boot_states store.regions
@@ -65,3 +72,7 @@ pub record Moves (input : Input) (place : ℕ) : Type 0 where
       → IsTable input place (raised n a) (with_states (changes (address_of input a).0 (index_after input a (n a + 1)) rows s e.body) rows)
   -- where nothing can follow, the cut is the greatest of what was told
   pub greatest : (told : Telling) (n : Cut) → AreKnown input place told → IsCut input place n → AllTold told n → ((a : ℕ) → may_grow input told n a ≡ false) → IsGreatest input place told n
+  -- and where nothing at all can follow, it covers every reshaping
+  pub full : (n : Cut) → IsCut input place n → ((a : ℕ) → can_follow input place n a ≡ false) → IsFull input place n
+  -- a reshaping more makes a cut only where it may follow
+  pub only : (n : Cut) (a : ℕ) → IsCut input place n → IsCut input place (raised n a) → IsNext input place n a

@@ -21,23 +21,27 @@ abbrev pub some_of : (Option Entry → Bool) → Input → ℕ → ℕ → Bool
 some_of test input a zero = false
 some_of test input a (suc n) = test (entry_of_nth input a (suc n)) || some_of test input a n
 
+-- the body commits the merge of the region
 abbrev pub is_commit_of : ℕ → Body → Bool
 is_commit_of region (body.Commit source commit carried) = source == region
 is_commit_of region b = false
 
+-- the entry commits the merge of the region
 abbrev pub commits : ℕ → Option Entry → Bool
 commits region None = false
 commits region (Some e) = is_commit_of region e.body
 
+-- the body is a conf change that removes the store's peer
 abbrev pub is_removal : ℕ → Body → Bool
 is_removal store (body.Conf change) = is_removal_of store change
 is_removal store b = false
 
+-- the entry is a conf change that removes the store's peer
 abbrev pub removes : ℕ → Option Entry → Bool
 removes store None = false
 removes store (Some e) = is_removal store e.body
 
--- of the first addresses, the last with a covered commit of the region
+-- the last of the first addresses that has a covered commit of the region
 abbrev pub taker_below : Input → ℕ → Cut → ℕ → ℕ → Option ℕ
 taker_below input place n region zero = None
 taker_below input place n region (suc b) =
@@ -57,6 +61,7 @@ marked (Some target) gone s = merged_into s target
 marked None true s = removed s
 marked None false s = s
 
+-- the part's state, with the mode that its mark says
 abbrev pub marked_part : Option ℕ → Bool → Option Part → Option RegionState
 marked_part target gone None = None
 marked_part target gone (Some v) = Some (marked target gone v.state)
@@ -67,9 +72,11 @@ row_if false input place n a = None
 row_if true input place n a =
     marked_part (option_map (region_of input) (taker input place n (region_of input a))) (is_removed input n a) (part_at input a (index_after input a (n a)))
 
+-- the row of the address after the cut, if its region was made by then
 unfoldable pub row_at : Input → ℕ → Cut → ℕ → Option RegionState
 row_at input place n a = row_if (covers n (birth_of input a)) input place n a
 
+-- the address of the region on the store
 abbrev pub address_on : Input → Option Store → ℕ → Option ℕ
 address_on input None region = None
 address_on input (Some store) region = position (is_at store.id region) (rows_of input)
@@ -78,6 +85,7 @@ address_on input (Some store) region = position (is_at store.id region) (rows_of
 unfoldable pub address_in : Input → ℕ → ℕ → Option ℕ
 address_in input place region = address_on input (slice_get input.stores place) region
 
+-- the row of the region at the address, after the cut
 abbrev pub row_by : Input → ℕ → Cut → Option ℕ → Option RegionState
 row_by input place n None = None
 row_by input place n (Some a) = row_at input place n a
@@ -110,9 +118,11 @@ table_of input place n = rows_below input place n (count_of input)
 
 -- ---- the end
 
+-- the state in another mode
 abbrev pub with_mode : Mode → RegionState → RegionState
 with_mode m s = record { region = s.region; epoch = s.epoch; range = s.range; peers = s.peers; mode = m }
 
+-- the part's state in the mode in which it ended
 abbrev pub ended : Mode → Option Part → Option RegionState
 ended m None = None
 ended m (Some v) = Some (with_mode m v.state)

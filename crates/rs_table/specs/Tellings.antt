@@ -17,9 +17,11 @@ use Rattle.rs_table.specs.Cuts.{Cut, Reshaping, Telling, birth_of, covers, is_on
 abbrev pub has : Told → Telling
 has t a nth = contains (λ x y. ordering_then (nat_cmp x.0 y.0) (nat_cmp x.1 y.1)) t.by (a, nth)
 
+-- no reshaping was told
 abbrev pub nothing : Telling
 nothing a nth = false
 
+-- the one reshaping of this address with this number
 abbrev pub is_this : ℕ → ℕ → Telling
 is_this address number a nth = (address == a) && (number == nth)
 
@@ -32,6 +34,10 @@ numbers ns a = get_or ns a 0
 -- whether the cut covers what the address's nth reshaping needs
 abbrev pub has_needs : Input → Cut → ℕ → ℕ → Bool
 has_needs input n a nth = covers n (birth_of input a) && covers n (prepare_of input a nth)
+
+-- whether the address is one of the store that has a reshaping beyond the cut, and the cut covers what that needs
+abbrev pub can_follow : Input → ℕ → Cut → ℕ → Bool
+can_follow input place n a = is_on input place a && (ltb (n a) (length (reshapings_of input a)) && has_needs input n a (n a + 1))
 
 -- whether the address's next reshaping was told, and what it needs is covered
 abbrev pub may_grow : Input → Telling → Cut → ℕ → Bool
@@ -54,9 +60,11 @@ abbrev pub prepares_of : Input → ℕ → ℕ → List (Option Reshaping)
 prepares_of input a zero = []
 prepares_of input a (suc n) = prepares_of input a n ++ prepare_of input a (suc n) ∷ []
 
+-- what the region needs: its birth and the prepares of its merges
 abbrev pub needs_of : Input → ℕ → Needs
 needs_of input a = record { birth = birth_of input a; prepares = prepares_of input a (length (reshapings_of input a)) }
 
+-- nothing is needed
 abbrev pub no_needs : Needs
 no_needs = record { birth = None; prepares = [] }
 
@@ -64,13 +72,14 @@ no_needs = record { birth = None; prepares = [] }
 abbrev pub needs_on : Input → ℕ → ℕ → Needs
 needs_on input place a = if is_on input place a then needs_of input a else no_needs
 
--- of the first addresses
+-- the needs of the first addresses
 abbrev pub needs_below : Input → ℕ → ℕ → List Needs
 needs_below input place zero = []
 needs_below input place (suc a) = needs_below input place a ++ needs_on input place a ∷ []
 
 -- ---- who needs a reshaping
 
+-- the list; the empty one if there is none
 abbrev pub or_nil : Option (List ℕ) → List ℕ
 or_nil None = []
 or_nil (Some xs) = xs
@@ -79,6 +88,7 @@ or_nil (Some xs) = xs
 abbrev pub waiters : Waiters → ℕ → ℕ → List ℕ
 waiters w a nth = or_nil (get (λ x y. ordering_then (nat_cmp x.0 y.0) (nat_cmp x.1 y.1)) w.by (a, nth))
 
+-- nobody waits for a reshaping
 abbrev pub no_waiters : ℕ → ℕ → List ℕ
 no_waiters a nth = []
 
@@ -95,7 +105,7 @@ pub record IsWaiting (input : Input) (f : ℕ → ℕ → List ℕ) (x : ℕ) : 
   pub birth : (need : Reshaping) → birth_of input x ≡ Some need → is_among x (f need.0 need.1) ≡ true
   pub prepares : (nth : ℕ) (need : Reshaping) → nth < length (reshapings_of input x) → prepare_of input x (nth + 1) ≡ Some need → is_among x (f need.0 need.1) ≡ true
 
--- so do all addresses of the store
+-- all addresses of the store wait for what they need
 abbrev pub AllWait : Input → ℕ → (ℕ → ℕ → List ℕ) → Type 0
 AllWait input place f = (x : ℕ) → is_on input place x ≡ true → IsWaiting input f x
 

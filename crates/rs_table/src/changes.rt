@@ -2,9 +2,8 @@
 
 ghost use Rattle.std.specs.Prelude.{◌≡◌, ◌<◌, ◌≤◌, ◌^◌, ◌∷◌, [], true, None, length, IfOk};
 ghost use Rattle.rs_key.specs.Ranges.{first_bad_cut};
-ghost use Rattle.rs_region.specs.Reshapings.{split_kept, split_new, prepared, rolled_back};
-ghost use Rattle.rs_store.specs.Runs.{line_entry};
-ghost use Rattle.rs_store.specs.Stores.{conf_changed, is_removal_of};
+ghost use Rattle.rs_region.specs.Actions.{body_for, line_entry, turn_body};
+ghost use Rattle.rs_region.specs.Reshapings.{split_kept, split_new};
 ghost use Rattle.rs_entry.specs.declared.entry.Body.TheVariants as body;
 ghost use Rattle.rs_table.specs.Changes.{changes, joined};
 ghost use Rattle.rs_table.specs.Moves.{IsReady, IsSmall, MayChange};
@@ -12,11 +11,11 @@ ghost use Rattle.rs_table.specs.Rows.{state_of};
 
 use crate::place::find;
 use rs_check::Line;
-use rs_entry::{Body, CarriedBody, Change, Side};
+use rs_entry::Side;
 use rs_key::{Key, NoMemory, Rows, TryClone};
-use rs_region::RegionState;
+use rs_region::{Action, RegionState, Turn};
 
-/// The states that the entry leaves of the region and of those that it makes or merges.
+/// Returns the states that the entry leaves of the region and of those that it makes or merges.
 pub fn changed(
     store: u64,
     index: u64,
@@ -28,13 +27,7 @@ pub fn changed(
     requires may { MayChange rows.now state.now (line_entry line).body }
     ensures { IfOk result (λ states. states ≡ changes store index rows.now state.now (line_entry line.entry).body) }
 {
-    match line {
-        Line::Own(entry) => changed_by(store, index, rows, state, &entry.body),
-        Line::Carried(carried) => match &carried.body {
-            CarriedBody::Prepare { target } => prepared(state, *target, index),
-            CarriedBody::Empty | CarriedBody::Write(_) => Ok(Rows::new(state.peers.allocator())),
-        },
-    }
+    changed_by(store, index, rows, state, line.action())
 }
 
 fn changed_by(
@@ -42,19 +35,17 @@ fn changed_by(
     index: u64,
     rows: &[RegionState],
     state: &RegionState,
-    body: &Body,
+    action: Action<'_>,
 ) -> Result<Rows<RegionState>, NoMemory>
     requires small { IsSmall state.now }
-    requires may { MayChange rows.now state.now body.now }
-    ensures { IfOk result (λ states. states ≡ changes store index rows.now state.now body.now) }
+    requires may { MayChange rows.now state.now (body_for action) }
+    ensures { IfOk result (λ states. states ≡ changes store index rows.now state.now (body_for action.entry)) }
 {
-    match body {
-        Body::Empty | Body::Write(_) => Ok(Rows::new(state.peers.allocator())),
-        Body::Split { side, ids, keys } => split(state, *side, ids, keys),
-        Body::Prepare { target } => prepared(state, *target, index),
-        Body::Commit { source, .. } => joined(rows, state, *source),
-        Body::Rollback { .. } => rolled_back(state),
-        Body::Conf { change } => reconfigured(store, state, change),
+    match action {
+        Action::Nothing | Action::Writes(_) => Ok(Rows::new(state.peers.allocator())),
+        Action::Splits { side, ids, keys } => split(state, side, ids, keys),
+        Action::Merges { source, .. } => joined(rows, state, source),
+        Action::Turns(turn) => turned(store, index, rows, state, turn),
     }
 }
 
@@ -84,16 +75,7 @@ fn split(
     Ok(Rows::from_vec(states))
 }
 
-fn prepared(state: &RegionState, target: u64, index: u64) -> Result<Rows<RegionState>, NoMemory>
-    requires { IsSmall state.now }
-    ensures { IfOk result (λ states. states ≡ prepared state.now target index ∷ []) }
-{
-    let mut state = state.try_clone()?;
-    state.exec_prepare(target, index);
-    one(state)
-}
-
-/// The target, and the source that it takes over.
+/// Returns the target, and the source that it takes over.
 fn joined(
     rows: &[RegionState],
     state: &RegionState,
@@ -114,36 +96,18 @@ fn joined(
     Ok(states)
 }
 
-fn rolled_back(state: &RegionState) -> Result<Rows<RegionState>, NoMemory>
-    requires { IsSmall state.now }
-    ensures { IfOk result (λ states. states ≡ rolled_back state.now ∷ []) }
-{
-    let mut state = state.try_clone()?;
-    state.exec_rollback();
-    one(state)
-}
-
-fn reconfigured(
+#[tactic(auto, using(crate::proofs::Turning::turn_changes))]
+fn turned(
     store: u64,
+    index: u64,
+    rows: &[RegionState],
     state: &RegionState,
-    change: &Change,
+    turn: Turn,
 ) -> Result<Rows<RegionState>, NoMemory>
     requires { IsSmall state.now }
-    ensures { IfOk result (λ states. states ≡ conf_changed store state.now change.now ∷ []) }
+    ensures { IfOk result (λ states. states ≡ changes store index rows.now state.now (turn_body turn)) }
 {
     let mut state = state.try_clone()?;
-    state.exec_conf(change)?;
-    if is_removal_of(store, change) {
-        state.exec_removed();
-    }
+    state.turn_on(store, turn, index)?;
     one(state)
-}
-
-fn is_removal_of(store: u64, change: &Change) -> bool
-    ensures { result ≡ is_removal_of store change.now }
-{
-    match change {
-        Change::Add(_) => false,
-        Change::Remove(peer) => *peer == store,
-    }
 }

@@ -11,16 +11,16 @@ use rs_entry::{Body, CarriedBody};
 use rs_key::{NoMemory, Rows};
 use std::alloc::Global;
 
-/// What must be covered before the reshapings of an address are: each an address and a number, counted from 1.
+/// The reshapings that must be covered before those of an address: each an address and a number, counted from 1.
 #[derive(Drop)]
 pub struct Needs {
     /// The split that made its region.
     pub birth: Option<(u32, u64)>,
-    /// Of each of its reshapings that is a commit, the source's prepare.
+    /// For each of its reshapings that is a commit, the source's prepare.
     pub prepares: Rows<Option<(u32, u64)>>,
 }
 
-/// Whether the address is one of the store at the place.
+/// Returns whether the address is one of the store at the place.
 #[tactic(auto, using(crate::proofs::Counts::on_by, crate::proofs::Counts::on_none))]
 pub fn is_on(plan: &Plan, place: u32, a: u32) -> bool
     ensures on { result ≡ is_on plan.now place a }
@@ -32,19 +32,24 @@ pub fn is_on(plan: &Plan, place: u32, a: u32) -> bool
     }
 }
 
-#[tactic(auto, using(crate::proofs::Counts::counted_next, crate::proofs::Counts::counted_all))]
-/// How many of the address's reshapings have an index of at most this.
+/// How many of the address's reshapings have an index of at most this, by a search: their indexes rise.
+#[tactic(auto, using(crate::proofs::PlanReshapings::few_by))]
 fn number_at(plan: &Plan, a: u32, index: u64) -> u64
     requires { a < count_of plan.now }
     ensures { result ≡ reshaped_by plan.now a index }
 {
-    let mut number = 0;
-    for done in 0..plan.reshapings(a) {
-        if plan.reshaping(a, done + 1) <= index {
-            number += 1;
+    let _ = plan.input();
+    let mut low = 0;
+    let mut high = plan.reshapings(a);
+    'search: while low < high {
+        let middle = low + (high - low) / 2;
+        if plan.reshaping(a, middle + 1) <= index {
+            low = middle + 1;
+        } else {
+            high = middle;
         }
     }
-    number
+    low
 }
 
 #[tactic(auto, unfolding(crate::specs::Cuts::birth_of))]
@@ -58,7 +63,7 @@ fn birth_of(plan: &Plan, a: u32) -> Option<(u32, u64)>
     }
 }
 
-/// The entry of the address's nth reshaping.
+/// Returns the entry of the address's nth reshaping.
 #[tactic(auto, using(crate::proofs::PlanReshapings::nth_past, crate::proofs::PlanReshapings::nth_index))]
 pub fn entry_of_nth(plan: &Plan, a: u32, nth: u64) -> Option<Line<'_>>
     requires address { a < count_of plan.now }
@@ -70,7 +75,7 @@ pub fn entry_of_nth(plan: &Plan, a: u32, nth: u64) -> Option<Line<'_>>
     plan.entry(a, plan.reshaping(a, nth))
 }
 
-/// The source and the index of its prepare, where the entry is a commit.
+/// Returns the source and the index of its prepare, where the entry is a commit.
 fn merge_by(line: Option<Line<'_>>) -> Option<(u64, u64)>
     ensures { result ≡ merge_by (option_map line_entry line.entry) }
 {
@@ -86,7 +91,7 @@ fn merge_by(line: Option<Line<'_>>) -> Option<(u64, u64)>
     }
 }
 
-/// The source's prepare, where the address's nth reshaping is a commit.
+/// Returns the source's prepare, where the address's nth reshaping is a commit.
 #[tactic(auto, unfolding(crate::specs::Cuts::prepare_of))]
 fn prepare_of(plan: &Plan, a: u32, nth: u64) -> Option<(u32, u64)>
     requires address { a < count_of plan.now }
@@ -127,7 +132,7 @@ fn needs_on(alloc: Global, plan: &Plan, place: u32, a: u32) -> Result<Needs, NoM
     })
 }
 
-/// The needs of each address.
+/// Returns the needs of each address.
 pub fn all_needs(alloc: Global, plan: &Plan, place: u32) -> Result<Vec<Needs>, NoMemory>
     ensures { IfOk result (λ needs. needs.items ≡ needs_below plan.now place (count_of plan.now)) }
 {

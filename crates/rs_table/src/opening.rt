@@ -12,7 +12,7 @@ use rs_key::{NoMemory, Rows, TryClone};
 use rs_region::RegionState;
 use std::alloc::Global;
 
-/// The regions that the store at the place has from the start.
+/// Returns the regions that the store at the place has from the start.
 pub fn opening_table(alloc: Global, plan: &Plan, place: u32) -> Result<RegionTable, NoMemory>
     ensures { IfOk result (λ table. table ≡ opening_rows plan.now place) }
 {
@@ -28,7 +28,7 @@ pub fn opening_table(alloc: Global, plan: &Plan, place: u32) -> Result<RegionTab
     Ok(RegionTable::from_rows(rows))
 }
 
-/// How many of the store's addresses have a reshaping.
+/// Returns how many of the store's addresses have a reshaping.
 pub fn unfinished(plan: &Plan, place: u32) -> u32
     ensures { result ≡ open_below plan.now place nothing_covered (count_of plan.now) }
 {
@@ -41,7 +41,7 @@ pub fn unfinished(plan: &Plan, place: u32) -> u32
     number
 }
 
-/// For each address that nothing of it is covered.
+/// Returns for each address that nothing of it is covered.
 pub fn none_taken(alloc: Global, plan: &Plan) -> Result<Vec<u64>, NoMemory>
     ensures len { IfOk result (λ taken. length taken.items ≡ count_of plan.now) }
     ensures none { IfOk result (λ taken. numbers taken.items ≡ nothing_covered) }
@@ -49,7 +49,7 @@ pub fn none_taken(alloc: Global, plan: &Plan) -> Result<Vec<u64>, NoMemory>
     Ok(vec![in alloc; 0; plan.count() as usize]?)
 }
 
-/// The address `x` waits for all that it needs.
+/// Records that the address `x` waits for all that it needs.
 fn wait(alloc: Global, waits: &mut Waiters, needs: &Needs, x: u32) -> Result<(), NoMemory>
     ensures keeps { OnOk result (Keeps (waiters waits.old) (waiters waits.new)) }
     ensures waits { OnOk result (Waits (waiters waits.new) needs.now x) }
@@ -77,7 +77,7 @@ fn wait_for_prepares(
     Ok(())
 }
 
-/// All addresses of the store wait for what they need.
+/// Returns the waiters of the store: each of its addresses waits for what it needs.
 pub fn all_waits(
     alloc: Global,
     plan: &Plan,

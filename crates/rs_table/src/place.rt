@@ -10,14 +10,14 @@ use rs_key::{NoMemory, Rows};
 use rs_region::RegionState;
 use std::mem;
 
-/// The state of the region.
+/// Returns the state of the region.
 pub fn find(rows: &[RegionState], region: u64) -> Option<&RegionState>
     ensures { option_copied result ≡ state_of rows.now region }
 {
     rows.iter().find(|state| state.region == region)
 }
 
-/// Where the region's state is put, and whether one stands there.
+/// Returns where the region's state is put, and whether one stands there.
 fn seek(rows: &[RegionState], id: u64) -> (usize, bool)
     ensures place { result.0 ≡ place_of id rows.now }
     ensures there { result.1 ≡ is_there id rows.now }

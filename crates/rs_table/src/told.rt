@@ -12,7 +12,7 @@ pub struct Told {
 }
 
 impl Told {
-    /// Nothing was told. It takes no memory.
+    /// Returns the set in which nothing was told. It takes no memory.
     pub fn new(alloc: Global) -> Told
         ensures { has result ≡ nothing }
     {
@@ -21,6 +21,7 @@ impl Told {
         }
     }
 
+    /// Returns whether the reshaping of the address with this number was told.
     pub fn has(&self, address: u32, nth: u64) -> bool
         ensures { result ≡ has self.now address nth }
     {

@@ -5,14 +5,14 @@ use rs_key::{NoMemory, Rows};
 use std::alloc::Global;
 use std::collections::BTreeMap;
 
-/// Which addresses need a reshaping, by its address and number.
+/// The addresses that need a reshaping, by its address and number.
 #[derive(Drop)]
 pub struct Waiters {
     by: BTreeMap<(u32, u64), Rows<u32>>,
 }
 
 impl Waiters {
-    /// None needs one. It takes no memory.
+    /// Returns the list without a waiter. It takes no memory.
     pub fn new(alloc: Global) -> Waiters
         ensures { waiters result ≡ no_waiters }
     {
@@ -21,7 +21,7 @@ impl Waiters {
         }
     }
 
-    /// The addresses that need the address's nth reshaping.
+    /// Returns the addresses that need the address's nth reshaping.
     pub fn get(&self, address: u32, nth: u64) -> &[u32]
         ensures { result.now ≡ waiters self.now address nth }
     {

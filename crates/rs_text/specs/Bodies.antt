@@ -42,7 +42,7 @@ many_at item all (suc left) total (field ∷ fs) = do
   xs ← many_at item all left (total + 1) x.1
   Ok (x.0 ∷ xs)
 
--- at most 1,024 operations, and 1,048,576 in the file
+-- the operations to the end of a line: at most 1,024, and 1,048,576 in the file
 abbrev pub ops_at : ℕ → Fields → Result (List Op) TextKind
 ops_at total fields = many_at op_at 1048576 1024 total fields
 
@@ -52,6 +52,7 @@ write_at total fields = do
   ops ← ops_at total fields
   if length ops == 0 then Err BadLine else Ok ops
 
+-- the next field as a side
 unfoldable pub side_at : Fields → Read Side
 side_at fields = do
   word ← field_at fields
@@ -67,7 +68,7 @@ pair_at room field fields = do
   key ← key_at fields
   Ok ((id, key.0), key.1)
 
--- at most 64 pairs, and 4,096 in the file, region lines counted too
+-- the pairs to the end of a line: at most 64, and 4,096 in the file, region lines counted too
 abbrev pub pairs_at : ℕ → Fields → Result (List (ℕ × List ℕ)) TextKind
 pairs_at boots fields = many_at pair_at 4096 64 boots fields
 
@@ -132,7 +133,7 @@ peers_at (suc left) before (field ∷ fs) = do
   ids ← peers_at left id fs
   Ok (id ∷ ids)
 
--- in version 2 one or more, in version 1 none
+-- the peers of a region line: in version 2 one or more, in version 1 none
 unfoldable pub boot_peers_at : ℕ → Fields → Result (List ℕ) TextKind
 boot_peers_at version fields =
     if version == 2 then (do
@@ -144,6 +145,7 @@ boot_peers_at version fields =
 
 -- ---- bodies of carried entries
 
+-- the word begins a body
 abbrev pub is_body_word : List ℕ → Bool
 is_body_word w = bytes_eq w (codes "empty") || (bytes_eq w (codes "write") || (bytes_eq w (codes "split") || (bytes_eq w (codes "prepare") || (bytes_eq w (codes "commit") || bytes_eq w (codes "rollback")))))
 

@@ -13,6 +13,7 @@ use Rattle.rs_text.specs.Outcomes.{mode_forms}
 
 -- ---- syntax
 
+-- the word of a fault's kind
 abbrev pub kind_form : TextKind → Form
 kind_form BadHeader = word "BadHeader"
 kind_form BadLine = word "BadLine"
@@ -43,6 +44,7 @@ statement_forms (statement.Carried c) = carried_forms c
 abbrev pub range_forms : ℕ → Bounds → Forms
 range_forms region range = word "region" ∷ number region ∷ bounds range
 
+-- the lines that tell a fault of the laws
 abbrev pub fault_lines : LawFault → List Forms
 fault_lines (fault.Differ first second region index was is) = unlawful (codes "differ") (first ∷ second ∷ region ∷ index ∷ []) ∷ statement_forms was ∷ statement_forms is ∷ []
 fault_lines (fault.Overlap one other) = unlawful (codes "overlap") (one.region ∷ other.region ∷ []) ∷ region_forms one ∷ region_forms other ∷ []

@@ -39,7 +39,7 @@ abbrev pub NoneBelongs : List ℕ → Result Input TextError → Type 0
 NoneBelongs text (Err (texts.Fault line kind)) = (u : List ℕ) → SameLines line text u → (x : Input) → Belongs u x → ⊥
 NoneBelongs text _ = Unit {0}
 
--- the lines before the fault's, as a text of their own, have no fault, but that `end` may be missing
+-- the lines before the fault's, as a whole text, have no fault, but that `end` may be missing
 abbrev pub NoneBefore : List ℕ → Result Input TextError → Type 0
 NoneBefore text (Err (texts.Fault line kind)) = (u : List ℕ) → LinesBefore line text u → IsFaultless line (read_text u)
 NoneBefore text _ = Unit {0}

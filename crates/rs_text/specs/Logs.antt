@@ -27,6 +27,7 @@ abbrev pub op_forms : Op → Forms
 op_forms (Put k v) = word "put" ∷ Hex k ∷ value v ∷ []
 op_forms (Delete k) = word "del" ∷ Hex k ∷ []
 
+-- the word of a side
 abbrev pub side : Side → Form
 side Right = word "right"
 side Left = word "left"
@@ -71,6 +72,7 @@ entry_forms e = head e.index e.epoch (body_forms e.body)
 abbrev pub carried_forms : Carried → Forms
 carried_forms c = head c.index c.epoch (carried_body_forms c.body)
 
+-- the line of a carried entry
 abbrev pub carry_forms : Carried → Forms
 carry_forms c = word "carry" ∷ carried_forms c
 
@@ -79,9 +81,11 @@ abbrev pub carried_lines : Body → List Forms
 carried_lines (body.Commit source commit cs) = map carry_forms cs
 carried_lines _ = []
 
+-- the line of an entry, and the lines of those that it carries
 abbrev pub entry_lines : Entry → List Forms
 entry_lines e = entry_forms e ∷ carried_lines e.body
 
+-- the line of a log, and the lines of its entries
 abbrev pub log_lines : Log → List Forms
 log_lines l = (word "log" ∷ number l.region ∷ []) ∷ flat_map entry_lines l.entries
 
@@ -89,6 +93,7 @@ log_lines l = (word "log" ∷ number l.region ∷ []) ∷ flat_map entry_lines l
 abbrev pub region_forms : Boot → Forms
 region_forms b = word "region" ∷ number b.region ∷ (bounds b.range ++ map number b.peers)
 
+-- the line of a store, then those of its boot regions, then those of its logs
 abbrev pub store_lines : Store → List Forms
 store_lines s = (word "store" ∷ number s.id ∷ []) ∷ (map region_forms s.regions ++ flat_map log_lines s.logs)
 

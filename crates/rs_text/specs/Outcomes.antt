@@ -18,13 +18,14 @@ use Rattle.rs_field.specs.Forms.{Form, Exact, Hex, Forms, word, number, value, b
 
 -- ---- regions
 
+-- the words of a region's mode
 abbrev pub mode_forms : Mode → Forms
 mode_forms mode.Normal = word "normal" ∷ []
 mode_forms (mode.Merging target commit) = word "merging" ∷ number target ∷ number commit ∷ []
 mode_forms (mode.Merged target) = word "merged" ∷ number target ∷ []
 mode_forms mode.Removed = word "removed" ∷ []
 
--- `peers ID ..`, where there are any
+-- `peers ID ..`, if there are any
 abbrev pub peers_forms : List ℕ → Forms
 peers_forms [] = []
 peers_forms (p ∷ ps) = word "peers" ∷ map number (p ∷ ps)
@@ -39,6 +40,7 @@ region_line r = word "region" ∷ number r.region ∷ word "epoch" ∷ (epoch r.
 
 -- ---- replies
 
+-- the words of a reply
 abbrev pub reply_forms : Reply → Forms
 reply_forms (reply.Done version) = word "ok" ∷ number version ∷ []
 reply_forms (reply.Stale e) = word "stale" ∷ epoch e
@@ -73,6 +75,7 @@ history_line h = word "history" ∷ Hex h.key ∷ map item h.items
 
 -- ---- whole texts
 
+-- the line of a store, then those of its regions, replies, pairs and histories
 abbrev pub store_lines : StoreOutcome → List Forms
 store_lines s = (word "store" ∷ number s.id ∷ []) ∷ (map region_line s.regions ++ (map reply_line s.replies ++ (map pair_line s.pairs ++ map history_line s.histories)))
 
@@ -85,6 +88,7 @@ abbrev pub items_of : Option KeyHistory → List Item
 items_of None = []
 items_of (Some h) = h.items
 
+-- the items of the key in the store; none if it has no history
 abbrev pub history_of : List ℕ → StoreOutcome → List Item
 history_of key s = items_of (find (λ h. same_bytes h.key key) s.histories)
 

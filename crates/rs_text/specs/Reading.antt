@@ -17,9 +17,11 @@ use Rattle.rs_text.specs.Steps.{start, close_log, close_store, step}
 abbrev pub Fault : Type 0
 Fault = ℕ × TextKind
 
+-- the input that was read by here
 abbrev pub input_of : Progress → Input
 input_of p = record { version = p.version; stores = (close_store (close_log p)).stores }
 
+-- goes on after a line that was read; a fault gets the line's number
 abbrev pub at_line : {A : Type 0} → ℕ → Result A TextKind → (A → Result Input Fault) → Result Input Fault
 at_line n (Ok x) f = f x
 at_line n (Err kind) f = Err (n, kind)
@@ -36,6 +38,7 @@ read_from n p [] = Err (n, NoEnd)
 read_from n p (last ∷ []) = last_line n p last
 read_from n p (line ∷ next ∷ more) = at_line n (step p (fields_of line)) (λ q. read_from (n + 1) q (next ∷ more))
 
+-- the version that the header names, if it is one of the two
 abbrev pub version_of : List ℕ → Option ℕ
 version_of b = if bytes_eq b (codes "1") then Some 1 else if bytes_eq b (codes "2") then Some 2 else None
 
@@ -44,10 +47,12 @@ abbrev pub header_of : Fields → Option ℕ
 header_of (a ∷ b ∷ []) = if bytes_eq a (codes "raftreplay") then version_of b else None
 header_of _ = None
 
+-- goes on after a header with a version; any other header is a fault of line 1
 abbrev pub at_header : Option ℕ → (ℕ → Result Input Fault) → Result Input Fault
 at_header None f = Err (1, BadHeader)
 at_header (Some version) f = f version
 
+-- the input of a text by its parts between the LFs
 unfoldable pub read_parts : List (List ℕ) → Result Input Fault
 read_parts (line ∷ next ∷ more) = at_header (header_of (fields_of line)) (λ version. read_from 2 (start version) (next ∷ more))
 read_parts _ = Err (1, BadHeader)
@@ -64,6 +69,7 @@ GivesText (Ok x) read = read ≡ Ok x
 GivesText (Err (texts.Fault line kind)) read = read ≡ Err (line, kind)
 GivesText (Err texts.NoMemory) read = Unit {0}
 
+-- the error is that of the line with this number
 abbrev pub FaultAt : ℕ → LineError → TextError → Type 0
 FaultAt n (errors.Bad kind) e = e ≡ texts.Fault n kind
 FaultAt n errors.NoMemory e = e ≡ texts.NoMemory

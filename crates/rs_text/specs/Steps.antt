@@ -31,9 +31,11 @@ close_log p = if p.log == 0 then p else record p { logs = p.logs ++ record { reg
 unfoldable pub close_store : Progress → Progress
 close_store p = if p.store == 0 then p else record p { stores = p.stores ++ record { id = p.store; regions = p.regions; logs = p.logs } ∷ []; store = 0; regions = []; last_region = 0; logs = [] }
 
+-- how many stores were begun
 abbrev pub stores_so_far : Progress → ℕ
 stores_so_far p = if p.store == 0 then length p.stores else length p.stores + 1
 
+-- a store was begun
 abbrev pub open_store : ℕ → Progress → Progress
 open_store id p = record p { store = id }
 
@@ -46,6 +48,7 @@ store_line p fields = do
   _ ← end_at id.1
   Ok (open_store id.0 (close_store (close_log p)))
 
+-- a boot region was added to the store
 abbrev pub region_to : ℕ → Option (List ℕ) → Option (List ℕ) → List ℕ → Progress → Progress
 region_to id start end peers p = record p { regions = p.regions ++ record { region = id; range = record { start = start; end = end }; peers = peers } ∷ []; last_region = id; boots = p.boots + 1 }
 
@@ -61,6 +64,7 @@ region_line p fields = do
   peers ← boot_peers_at p.version end.1
   Ok (region_to id.0 start.0 end.0 peers p)
 
+-- a log was begun
 abbrev pub open_log : ℕ → Progress → Progress
 open_log region p = record p { log = region; next = 6 }
 
@@ -74,7 +78,7 @@ log_line p fields = do
 
 -- ---- entries
 
--- INDEX, after so many entry and carry lines
+-- INDEX, of a file with this number of entry and carry lines before it
 unfoldable pub index_of : ℕ → List ℕ → Result ℕ TextKind
 index_of lines field = do
   index ← number_of field
@@ -88,6 +92,7 @@ epoch_at fields = do
   version ← number_at conf.1
   Ok (record { conf_ver = conf.0; version = version.0 }, version.1)
 
+-- an entry was added to the log
 abbrev pub entry_to : Entry → Progress → Progress
 entry_to e p = record p { entries = p.entries ++ e ∷ []; next = p.next + 1; lines = p.lines + 1; operations = p.operations + ops_in e.body; boots = p.boots + pairs_in e.body }
 
@@ -131,6 +136,7 @@ entry_line p first fields = do
 
 -- ---- carried entries
 
+-- the commit with all entries that it carries
 abbrev pub whole_commit : OpenCommit → List Carried → Entry
 whole_commit o cs = record { index = o.index; epoch = o.epoch; body = body.Commit o.source o.commit cs }
 
@@ -175,6 +181,7 @@ free_line p word fields =
 unfoldable pub carry_or_bad : Progress → OpenCommit → List ℕ → Fields → Result Progress TextKind
 carry_or_bad p o word fields = if bytes_eq word (codes "carry") then carry_line p o fields else Err BadLine
 
+-- the progress after a line, by whether a commit is open
 unfoldable pub line_after : Progress → Option OpenCommit → List ℕ → Fields → Result Progress TextKind
 line_after p None word fields = free_line p word fields
 line_after p (Some o) word fields = carry_or_bad p o word fields
@@ -198,9 +205,11 @@ EndsLine (Err kind) after read = read ≡ Err kind
 
 -- ---- what keeps the numbers of the code small
 
+-- the commit carries no more entries than its index allows, and some are still to come
 abbrev pub Opens : OpenCommit → Type 0
 Opens o = (o.count ≤ o.commit) × (length o.carried < o.count)
 
+-- what a reading has counted is within its limits
 pub record Counts (p : Progress) : Type 0 where
   pub boots : p.boots ≤ 4096
   pub lines : p.lines ≤ 1048576

@@ -28,7 +28,7 @@ pub const BOOTS: u64 = 4096;
 /// The most carried entries of one commit.
 const CARRIED: u64 = 4096;
 
-/// One operation, from its word on.
+/// Reads one operation, from its word on.
 #[tactic(auto, unfolding(crate::specs::Bodies::op_at))]
 fn op(alloc: Global, room: bool, word: &[u8], fields: &mut Fields<'_>) -> Result<Op, LineError>
     ensures { Takes result fields.new (op_at room word.now fields.old) }
@@ -51,7 +51,7 @@ fn op(alloc: Global, room: bool, word: &[u8], fields: &mut Fields<'_>) -> Result
     Err(LineError::Bad(TextKind::BadLine))
 }
 
-/// Operations to the end of the line, after so many of the file.
+/// Reads operations to the end of the line, of a file that has `total` before them.
 fn ops(alloc: Global, total: u64, fields: &mut Fields<'_>) -> Result<Rows<Op>, LineError>
     requires { total ≤ 1048576 }
     ensures { Gives (λ x. x) result (ops_at total fields.old) }
@@ -72,7 +72,7 @@ fn ops(alloc: Global, total: u64, fields: &mut Fields<'_>) -> Result<Rows<Op>, L
     Ok(ops)
 }
 
-/// One or more operations.
+/// Reads one or more operations.
 #[tactic(auto, unfolding(crate::specs::Bodies::write_at))]
 pub fn write(alloc: Global, total: u64, fields: &mut Fields<'_>) -> Result<Rows<Op>, LineError>
     requires { total ≤ 1048576 }
@@ -85,7 +85,7 @@ pub fn write(alloc: Global, total: u64, fields: &mut Fields<'_>) -> Result<Rows<
     Ok(ops)
 }
 
-/// The side of a split.
+/// Reads the side of a split.
 #[tactic(auto, unfolding(crate::specs::Bodies::side_at))]
 fn side(fields: &mut Fields<'_>) -> Result<Side, TextKind>
     ensures { TakesPlain result fields.new (side_at fields.old) }
@@ -100,7 +100,7 @@ fn side(fields: &mut Fields<'_>) -> Result<Side, TextKind>
     Err(TextKind::BadLine)
 }
 
-/// One pair of a split, from its id on.
+/// Reads one pair of a split, from its id on.
 #[tactic(auto, unfolding(crate::specs::Bodies::pair_at))]
 fn pair(
     alloc: Global,
@@ -118,7 +118,7 @@ fn pair(
     Ok((id, key))
 }
 
-/// Pairs to the end of the line, after so many region lines and pairs of the file.
+/// Reads pairs to the end of the line, of a file that has `boots` region lines and pairs before them.
 fn pairs(alloc: Global, boots: u64, fields: &mut Fields<'_>) -> Result<Rows<(u64, Key)>, LineError>
     requires { boots ≤ 4096 }
     ensures { Gives (λ x. x) result (pairs_at boots fields.old) }
@@ -139,7 +139,7 @@ fn pairs(alloc: Global, boots: u64, fields: &mut Fields<'_>) -> Result<Rows<(u64
     Ok(pairs)
 }
 
-/// An id, to the end of the line.
+/// Reads an id, to the end of the line.
 #[tactic(auto, unfolding(crate::specs::Bodies::target_at))]
 pub fn target(fields: &mut Fields<'_>) -> Result<u64, TextKind>
     ensures { result ≡ target_at fields.old }
@@ -149,7 +149,7 @@ pub fn target(fields: &mut Fields<'_>) -> Result<u64, TextKind>
     Ok(id)
 }
 
-/// The source, the index and the number of carried entries of a commit.
+/// Reads the source, the index and the number of carried entries of a commit.
 #[tactic(auto, unfolding(crate::specs::Bodies::commit_at))]
 pub fn commit(fields: &mut Fields<'_>) -> Result<(u64, u64, u64), TextKind>
     ensures value { result ≡ commit_at fields.old }
@@ -168,14 +168,14 @@ pub fn commit(fields: &mut Fields<'_>) -> Result<(u64, u64, u64), TextKind>
     Ok((source, commit, count))
 }
 
-/// Whether a word begins a change of peers.
+/// Returns whether a word begins a change of peers.
 pub fn is_conf_word(word: &[u8]) -> bool
     ensures { result ≡ is_conf_word word.now }
 {
     is_word(word, "add") || is_word(word, "remove")
 }
 
-/// A change of peers, which only version 2 has.
+/// Reads a change of peers, which only version 2 has.
 #[tactic(auto, unfolding(crate::specs::Bodies::conf_at))]
 pub fn conf(version: u64, word: &[u8], fields: &mut Fields<'_>) -> Result<Body, TextKind>
     ensures value { result ≡ conf_at version word.now fields.old }
@@ -200,7 +200,7 @@ pub fn conf(version: u64, word: &[u8], fields: &mut Fields<'_>) -> Result<Body, 
     Err(TextKind::BadLine)
 }
 
-/// Ids to the end of the line, each above the one before, at most 64 of them.
+/// Reads ids to the end of the line, each above the one before, at most 64 of them.
 fn peers(alloc: Global, fields: &mut Fields<'_>) -> Result<Rows<u64>, LineError>
     ensures { Gives (λ x. x) result (peers_at 64 0 fields.old) }
 {
@@ -229,7 +229,7 @@ fn peers(alloc: Global, fields: &mut Fields<'_>) -> Result<Rows<u64>, LineError>
     }
 }
 
-/// The peers of a region line: in version 2 one or more, in version 1 none.
+/// Reads the peers of a region line: in version 2 one or more, in version 1 none.
 #[tactic(auto, unfolding(crate::specs::Bodies::boot_peers_at))]
 pub fn boot_peers(
     alloc: Global,
@@ -249,7 +249,7 @@ pub fn boot_peers(
     Ok(ids)
 }
 
-/// Whether a word begins a body.
+/// Returns whether a word begins a body.
 pub fn is_body_word(word: &[u8]) -> bool
     ensures { result ≡ is_body_word word.now }
 {
@@ -268,7 +268,7 @@ struct Parts {
     keys: Rows<Key>,
 }
 
-/// Pairs, taken apart.
+/// Returns pairs, taken apart.
 fn parts_of(alloc: Global, pairs: Rows<(u64, Key)>) -> Result<Parts, NoMemory>
     ensures ids { IfOk result (λ r. r.ids ≡ map (λ p. p.0) pairs) }
     ensures keys { IfOk result (λ r. r.keys ≡ map (λ p. p.1) pairs) }
@@ -282,7 +282,7 @@ fn parts_of(alloc: Global, pairs: Rows<(u64, Key)>) -> Result<Parts, NoMemory>
     Ok(Parts { ids, keys })
 }
 
-/// The side and the pairs of a split, after so many region lines and pairs of the file.
+/// Reads the side and the pairs of a split, of a file that has `boots` region lines and pairs before them.
 #[tactic(auto, unfolding(crate::specs::Bodies::split_at))]
 pub fn split(alloc: Global, boots: u64, fields: &mut Fields<'_>) -> Result<Body, LineError>
     requires { boots ≤ 4096 }
@@ -297,7 +297,7 @@ pub fn split(alloc: Global, boots: u64, fields: &mut Fields<'_>) -> Result<Body,
     Ok(Body::Split { side, ids, keys })
 }
 
-/// A number, to the end of the line.
+/// Reads a number, to the end of the line.
 #[tactic(auto, unfolding(crate::specs::Bodies::last_number_at))]
 pub fn last_number(fields: &mut Fields<'_>) -> Result<u64, TextKind>
     ensures { result ≡ last_number_at fields.old }

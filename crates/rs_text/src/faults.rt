@@ -29,7 +29,7 @@ fn put_kind(out: &mut Vec<u8>, kind: TextKind) -> Result<(), NoMemory>
     }
 }
 
-/// The text of the first fault of a text.
+/// Returns the text of the first fault of a text.
 #[tactic(auto, unfolding(crate::specs::FaultTexts::syntax_text))]
 pub fn write_syntax(alloc: Global, line: u64, kind: TextKind) -> Result<Vec<u8>, NoMemory>
     ensures { IfOk result (λ v. v.items ≡ syntax_text line kind) }
@@ -195,7 +195,7 @@ fn put_fault(out: &mut Vec<u8>, fault: &LawFault) -> Result<(), NoMemory>
     }
 }
 
-/// The text of a fault of the laws.
+/// Returns the text of a fault of the laws.
 #[tactic(auto, unfolding(crate::specs::FaultTexts::fault_text))]
 pub fn write_fault(alloc: Global, fault: &LawFault) -> Result<Vec<u8>, NoMemory>
     ensures { IfOk result (λ v. v.items ≡ fault_text fault.now) }

@@ -218,7 +218,7 @@ impl Block for Store {
     }
 }
 
-/// The canonical text of an input: one space between fields, hexadecimal digits in lower case.
+/// Returns the canonical text of an input: one space between fields, hexadecimal digits in lower case.
 ///
 /// Where the input is well formed the text belongs to it (`belongs`), and is read again as it (`again`).
 /// Any other input is written too, and no more is said of its text.
@@ -231,7 +231,7 @@ pub fn write_logs(alloc: Global, input: &Input) -> Result<Vec<u8>, NoMemory>
     Ok(text)
 }
 
-/// The canonical text of an input.
+/// Returns the canonical text of an input.
 #[tactic(auto, unfolding(crate::specs::Logs::text_of, crate::specs::Logs::lines_of))]
 fn canonical_text(alloc: Global, input: &Input) -> Result<Vec<u8>, NoMemory>
     ensures { IfOk result (λ v. v.items ≡ text_of input.now) }

@@ -31,7 +31,7 @@ pub fn put_mode(out: &mut Vec<u8>, mode: &Mode) -> Result<(), NoMemory>
     }
 }
 
-/// Appends peers behind other fields, where there are any.
+/// Appends peers behind other fields, if there are any.
 fn put_peers(out: &mut Vec<u8>, peers: &Rows<u64>) -> Result<(), NoMemory>
     ensures { Appends result out.old out.new (more_text (peers_forms peers.now)) }
 {
@@ -171,7 +171,7 @@ impl Block for StoreOutcome {
     }
 }
 
-/// The text of an outcome.
+/// Returns the text of an outcome.
 #[tactic(auto, unfolding(crate::specs::Outcomes::outcome_text))]
 pub fn write_outcome(alloc: Global, outcome: &Outcome) -> Result<Vec<u8>, NoMemory>
     ensures { IfOk result (λ v. v.items ≡ outcome_text outcome.now) }
@@ -181,7 +181,7 @@ pub fn write_outcome(alloc: Global, outcome: &Outcome) -> Result<Vec<u8>, NoMemo
     Ok(out)
 }
 
-/// The history of a key on a store.
+/// Returns the history of a key on a store.
 fn history_of<'a>(key: &Key, store: &'a StoreOutcome) -> Option<&'a KeyHistory>
     ensures { option_copied result ≡ find (λ h. same_bytes h.key key.now) store.now.histories }
 {
@@ -202,7 +202,7 @@ fn put_key_lines(out: &mut Vec<u8>, key: &Key, store: &StoreOutcome) -> Result<(
     put_word(out, "\n")
 }
 
-/// The text of the history of one key: what was written to it, store by store.
+/// Returns the text of the history of one key: what was written to it, store by store.
 ///
 /// A store with no history of the key has a line without items.
 #[tactic(auto, unfolding(crate::specs::Outcomes::history_text))]

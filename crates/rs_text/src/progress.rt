@@ -18,7 +18,7 @@ pub struct OpenCommit {
     pub carried: Rows<Carried>,
 }
 
-/// What the lines so far have given: the stores that are whole, and the parts of the store that is open.
+/// The input that was read so far: the stores that are whole, and the parts of the store that is open.
 #[derive(Debug, Drop)]
 pub struct Progress {
     /// The version of the file, by line 1.
@@ -36,17 +36,17 @@ pub struct Progress {
     /// The index of the next entry of the open log.
     pub next: u64,
     pub commit: Option<OpenCommit>,
-    /// Region lines and split pairs so far.
+    /// The number of region lines and split pairs so far.
     pub boots: u64,
-    /// Entry and carry lines so far.
+    /// The number of entry and carry lines so far.
     pub lines: u64,
-    /// Operations so far.
+    /// The number of operations so far.
     pub operations: u64,
     /// The line `end` was read.
     pub ended: bool,
 }
 
-/// Nothing but line 1 was read.
+/// Returns the progress of a reading that has read line 1 alone.
 pub fn start(alloc: Global, version: u64) -> Progress
     ensures { result ≡ start version }
 {

@@ -15,7 +15,7 @@ use rs_field::{Fields, LineError, TextKind, is_word, next_line};
 use rs_key::NoMemory;
 use std::alloc::Global;
 
-/// The input that a text spells, or its first fault. Where memory runs out it answers so, and nothing is told.
+/// Reads the input that a text spells, or its first fault. Where memory runs out it answers so, and nothing is told.
 ///
 /// A text belongs to an input where the input is well formed and the text is its canonical text, up to the
 /// spaces between fields and the case of hexadecimal digits. What the clauses say:
@@ -26,7 +26,7 @@ use std::alloc::Global;
 ///   text belongs to two inputs;
 /// - `none`: where a fault is answered, no text that begins with the same lines, up to and with the line of
 ///   the fault, belongs to an input;
-/// - `before`: the lines before that line, as a text of their own, have no fault, but that `end` may be
+/// - `before`: the lines before that line, as a whole text, have no fault, but that `end` may be
 ///   missing;
 /// - `counted`: no store of an input that is answered has more logs than the text has bytes.
 ///
@@ -42,7 +42,7 @@ pub fn read_logs(alloc: Global, text: &[u8]) -> Result<Input, TextError>
     whole_text(alloc, text)
 }
 
-/// The input that a text spells, or its first fault.
+/// Reads the input that a text spells, or its first fault.
 #[tactic(auto, unfolding(crate::specs::Reading::read_text))]
 fn whole_text(alloc: Global, text: &[u8]) -> Result<Input, TextError>
     ensures { GivesText result (read_text text.now) }
@@ -62,7 +62,7 @@ fn whole_text(alloc: Global, text: &[u8]) -> Result<Input, TextError>
     lines(alloc, version, rest)
 }
 
-/// The version that a word names.
+/// Returns the version that a word names.
 fn version_of(word: &[u8]) -> Option<u64>
     ensures { result ≡ version_of word.now }
 {
@@ -75,7 +75,7 @@ fn version_of(word: &[u8]) -> Option<u64>
     None
 }
 
-/// The version that line 1 names.
+/// Returns the version that line 1 names.
 fn header_of(line: &[u8]) -> Option<u64>
     ensures { result ≡ header_of (fields_of line.now) }
 {
@@ -95,7 +95,7 @@ fn header_of(line: &[u8]) -> Option<u64>
     version_of(second)
 }
 
-/// The fault of a line, at its number.
+/// Returns the fault of a line, at its number.
 fn at_line(line: u64, error: LineError) -> TextError
     ensures { FaultAt line error result }
 {
@@ -105,7 +105,7 @@ fn at_line(line: u64, error: LineError) -> TextError
     }
 }
 
-/// The input of a progress.
+/// Returns the input of a progress.
 fn whole(alloc: Global, mut p: Progress) -> Result<Input, NoMemory>
     requires { Counts p }
     ensures { IfOk result (λ x. x ≡ input_of p) }
@@ -117,7 +117,7 @@ fn whole(alloc: Global, mut p: Progress) -> Result<Input, NoMemory>
     Ok(Input { version, stores })
 }
 
-/// What follows the last LF, as line n.
+/// Reads what follows the last LF, as line `n`.
 #[tactic(auto, unfolding(crate::specs::Reading::last_line))]
 fn finish(alloc: Global, line: u64, p: Progress, last: &[u8]) -> Result<Input, TextError>
     requires { Counts p }
@@ -141,7 +141,7 @@ fn finish(alloc: Global, line: u64, p: Progress, last: &[u8]) -> Result<Input, T
     }
 }
 
-/// The lines after line 1.
+/// Reads the lines after line 1.
 fn lines(alloc: Global, version: u64, text: &[u8]) -> Result<Input, TextError>
     ensures { GivesText result (read_from 2 (start version) (parts_of text.now)) }
 {

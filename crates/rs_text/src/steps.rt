@@ -22,7 +22,7 @@ const STORES: usize = 64;
 /// The most entry and carry lines of a file.
 const LINES: u64 = 1_048_576;
 
-/// The open log is whole.
+/// Closes the open log.
 #[tactic(auto, unfolding(crate::specs::Steps::close_log))]
 pub fn close_log(alloc: Global, p: &mut Progress) -> Result<(), NoMemory>
     requires { Counts p.old }
@@ -42,7 +42,7 @@ pub fn close_log(alloc: Global, p: &mut Progress) -> Result<(), NoMemory>
     Ok(())
 }
 
-/// The open store is whole.
+/// Closes the open store.
 #[tactic(auto, unfolding(crate::specs::Steps::close_store))]
 pub fn close_store(alloc: Global, p: &mut Progress) -> Result<(), NoMemory>
     requires { Counts p.old }
@@ -131,7 +131,7 @@ fn region_line(alloc: Global, p: &mut Progress, fields: &mut Fields<'_>) -> Resu
     Ok(())
 }
 
-/// The epoch of a line.
+/// Reads the epoch of a line.
 #[tactic(auto, unfolding(crate::specs::Steps::epoch_at))]
 fn epoch(fields: &mut Fields<'_>) -> Result<Epoch, TextKind>
     ensures { TakesPlain result fields.new (epoch_at fields.old) }
@@ -141,7 +141,7 @@ fn epoch(fields: &mut Fields<'_>) -> Result<Epoch, TextKind>
     Ok(Epoch { conf_ver, version })
 }
 
-/// The index of a line, after so many entry and carry lines.
+/// Reads the index of a line, of a file that has `lines` entry and carry lines before it.
 #[tactic(auto, unfolding(crate::specs::Steps::index_of))]
 fn index(lines: u64, field: &[u8]) -> Result<u64, TextKind>
     ensures value { result ≡ index_of lines field.now }
@@ -154,7 +154,7 @@ fn index(lines: u64, field: &[u8]) -> Result<u64, TextKind>
     Ok(index)
 }
 
-/// The body of an entry, but for a commit.
+/// Reads the body of an entry, but for a commit.
 #[tactic(auto, unfolding(crate::specs::Steps::body_at))]
 fn body(
     alloc: Global,
@@ -192,7 +192,7 @@ fn body(
     Ok(body)
 }
 
-/// One more entry is whole.
+/// Adds an entry to the open log.
 fn add_entry(p: &mut Progress, entry: Entry) -> Result<(), NoMemory>
     requires counts { Counts p.old }
     requires operations { p.old.operations + ops_in entry.body ≤ 1048576 }
@@ -229,7 +229,7 @@ fn pairs_in(body: &Body) -> u64
     }
 }
 
-/// A commit, whose carried entries may follow.
+/// Reads a commit, whose carried entries may follow.
 fn add_commit(
     alloc: Global,
     p: &mut Progress,
@@ -266,7 +266,7 @@ fn add_commit(
     Ok(())
 }
 
-/// An entry line, from its index on.
+/// Reads an entry line, from its index on.
 #[tactic(auto, unfolding(crate::specs::Steps::entry_line))]
 fn entry_line(
     alloc: Global,
@@ -294,7 +294,7 @@ fn entry_line(
     Ok(())
 }
 
-/// The line `end`.
+/// Reads the line `end`.
 fn end_line(p: &mut Progress, fields: &mut Fields<'_>) -> Result<(), TextKind>
     requires { Counts p.old }
     ensures value { EndsLine result p.new (end_line p.old fields.old) }
@@ -305,7 +305,7 @@ fn end_line(p: &mut Progress, fields: &mut Fields<'_>) -> Result<(), TextKind>
     Ok(())
 }
 
-/// A line after which no carried lines are left.
+/// Reads a line after which no carried lines are left.
 #[tactic(auto, unfolding(crate::specs::Steps::free_line))]
 fn free_line(
     alloc: Global,
@@ -354,7 +354,7 @@ fn begins_with_digit(word: &[u8]) -> bool
     }
 }
 
-/// The body of a carried entry, which is the last or not.
+/// Reads the body of a carried entry, which is the last or not.
 #[tactic(auto, unfolding(crate::specs::Bodies::carried_body_at))]
 fn carried_body(
     alloc: Global,
@@ -386,7 +386,7 @@ fn carried_body(
     Err(LineError::Bad(bad_word(version, word)))
 }
 
-/// What is wrong with a word that no carried entry has here.
+/// Returns what is wrong with a word that no carried entry has here.
 fn bad_word(version: u64, word: &[u8]) -> TextKind
     ensures { result ≡ bad_word version word.now }
 {
@@ -406,7 +406,7 @@ fn carried_operations_in(body: &CarriedBody) -> u64
     }
 }
 
-/// One more carried entry is whole, and with the last the commit.
+/// Adds a carried entry to the open commit, and after the last one the commit to the log.
 fn add_carried(p: &mut Progress, mut pending: OpenCommit, carried: Carried) -> Result<(), NoMemory>
     requires counts { Counts p.old }
     requires pending { Opens pending }
@@ -441,7 +441,7 @@ fn add_carried(p: &mut Progress, mut pending: OpenCommit, carried: Carried) -> R
     Ok(())
 }
 
-/// A carry line, from its second field on.
+/// Reads a carry line, from its second field on.
 #[tactic(auto, unfolding(crate::specs::Steps::carry_line))]
 fn carry_line(
     alloc: Global,
@@ -468,7 +468,7 @@ fn carry_line(
     Ok(())
 }
 
-/// What one ended line gives.
+/// Reads one ended line.
 #[tactic(auto, unfolding(crate::specs::Steps::step, crate::specs::Steps::line_after, crate::specs::Steps::carry_or_bad))]
 pub fn step(alloc: Global, p: &mut Progress, line: &[u8]) -> Result<(), LineError>
     requires { Counts p.old }

@@ -1,4 +1,4 @@
-//! What is written as lines.
+//! A value that is written as lines.
 
 ghost use Rattle.std.specs.Prelude.{List, map};
 ghost use Rattle.std.specs.List.{flat_map};
@@ -6,7 +6,7 @@ ghost use Rattle.rs_field.specs.Forms.{Appends, Forms, line_text, lines_text};
 
 use rs_key::{NoMemory, Rows};
 
-/// What is written as one line.
+/// A value that is written as one line.
 pub trait Line {
     // The fields of the line.
     ghost line: { Self → Forms };
@@ -16,7 +16,7 @@ pub trait Line {
         ensures { Appends result out.old out.new (line_text (line self.now)) };
 }
 
-/// What is written as lines.
+/// A value that is written as lines.
 pub trait Block {
     // The lines.
     ghost lines: { Self → List Forms };

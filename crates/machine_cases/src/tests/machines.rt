@@ -21,6 +21,7 @@ pub struct RegionMachines<'p> {
 }
 
 impl<'p> RegionMachines<'p> {
+    /// Returns the two machines of the region at the address.
     pub fn new(plan: &'p Plan, address: u32) -> Result<RegionMachines<'p>, NoMemory>
         requires { address < count_of plan.now }
         ensures { IfOk result (λ machines. machines.plan ≡ plan.entry) }
@@ -34,6 +35,7 @@ impl<'p> RegionMachines<'p> {
         })
     }
 
+    /// Lets the peer machine handle a message.
     pub fn tell_peer(&mut self, msg: PeerMsg<'p>, out: &mut Outbox<'p>) -> Result<(), NoMemory>
         requires message { name_of_peer msg ≡ self.old.plan.now }
         requires fits { Fits self.old.plan.now out.old }
@@ -43,6 +45,7 @@ impl<'p> RegionMachines<'p> {
         self.peer.handle(msg, out)
     }
 
+    /// Lets the apply machine handle a message.
     pub fn tell_apply(&mut self, msg: ApplyMsg<'p>, out: &mut Outbox<'p>) -> Result<(), NoMemory>
         requires message { name_of_apply msg ≡ self.old.plan.now }
         ensures plan { self.new.plan ≡ self.old.plan }
@@ -51,6 +54,7 @@ impl<'p> RegionMachines<'p> {
         self.apply.handle(msg, out)
     }
 
+    /// Whether the peer knows this applied index, and is a tombstone or not.
     pub fn peer_is(&self, applied: u64, tombstone: bool) -> bool {
         self.peer.applied() == applied && self.peer.is_tombstone() == tombstone
     }

@@ -7,6 +7,7 @@ use rs_mailcore::Named;
 use rs_rows::Rows;
 use std::test::Fail;
 
+/// Takes the last of the stations; `None` if there are none left.
 pub fn next_station(
     mailbox: &Mailbox<Tally>,
     stations: &mut Rows<Station<Tally>>,

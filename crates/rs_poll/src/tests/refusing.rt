@@ -9,7 +9,7 @@ use std::sync::Wait;
 use std::sync::atomic::AtomicU64;
 use std::test::Fail;
 
-/// A scheduler over a queue, whose passes refuse a ticket once they have pushed so many.
+/// A scheduler over a queue, whose passes refuse tickets once they have pushed a number of them.
 #[derive(Drop)]
 struct Stingy {
     inner: QueueScheduler,

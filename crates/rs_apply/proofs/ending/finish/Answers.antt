@@ -6,6 +6,6 @@ pub returns-clause-stores : goal.returns-clause-stores
 returns-clause-stores c =
     record {
       message = store.Ended c.in_ok-ending.ending;
-      is = c.in_ok-push.ensures.ok ∙ ap (λ z. c.args.out.now.stores ++ (z, store.Ended c.in_ok-ending.ending) ∷ []) c.store_place.ensures;
+      is = c.in_ok-push.ensures.ok ∙ ap (λ z. c.args.out.now.stores ++ (z, store.Ended c.in_ok-ending.ending) ∷ []) c.place.ensures.place;
       tells = (search rules, search rules);
     }

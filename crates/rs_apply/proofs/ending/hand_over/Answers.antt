@@ -1,9 +1,8 @@
-use Rattle.std.proofs.Common.{rules, ◌≡◌, ◌∷◌, [], ◌++◌, ◌∙◌, ap, sym, Some}
+use Rattle.std.proofs.Common.{rules, ◌≡◌, ◌∙◌, ap, sym, Some}
 use Rattle.std.proofs.lemmas.Result.{on_ok_weaker}
 use Rattle.rs_entry.specs.declared.outcome.Mode.TheVariants as modes
 use Rattle.rs_msg.specs.declared.messages.ApplyMsg.TheVariants as apply
 use Rattle.rs_apply.specs.Findings.{find_on}
-use Rattle.rs_apply.specs.Machines.{AddsHandover}
 use Rattle.rs_apply.proofs.Ends.{merging_at_stop}
 use Rattle.rs_apply.proofs.ending.hand_over.Goals as goal
 

@@ -1,4 +1,4 @@
-use Rattle.std.proofs.Common.{subst, sym, ap, ◌∙◌, ◌<◌}
+use Rattle.std.proofs.Common.{subst, sym, ◌<◌}
 use Rattle.rs_store.specs.Runs.{line_entry}
 use Rattle.rs_msg.specs.Maps.{HasItems, LiesIn, items_at, items_of_both}
 use Rattle.rs_check.specs.Values.{count_of}

@@ -1,4 +1,4 @@
-use Rattle.std.proofs.Common.{rules, ◌≡◌, Some, ap, sym, ◌∙◌}
+use Rattle.std.proofs.Common.{rules, ◌≡◌, Some}
 use Rattle.rs_msg.specs.Maps.{HasItems, items_at, items_of_both}
 use Rattle.std.proofs.lemmas.Result.{IfOk-weaker}
 use Rattle.rs_apply.proofs.Borders.{below_end, either_first, from_start}

@@ -1,7 +1,6 @@
-use Rattle.std.proofs.Common.{rules, ◌≡◌, Some, ◌++◌, ◌∷◌, []}
+use Rattle.std.proofs.Common.{rules, ◌≡◌, Some, ◌∷◌, []}
 use Rattle.std.proofs.lemmas.Result.{on_ok_weaker}
 use Rattle.rs_msg.specs.declared.messages.ApplyMsg.TheVariants as apply
-use Rattle.rs_apply.specs.Births.{AddsBirths}
 use Rattle.rs_apply.specs.Findings.{find_on}
 use Rattle.rs_apply.proofs.split.send.Goals as goal
 

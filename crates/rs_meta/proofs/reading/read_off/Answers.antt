@@ -11,7 +11,7 @@ use Rattle.rs_meta.proofs.reading.read_off.Goals as goal
 pub lines_of-requires-clause-of : goal.lines_of-requires-clause-of
 lines_of-requires-clause-of c =
     let facts = c.input-input.ensures in
-    subst (λ es. All (IsEndingOn c.args.plan.now (place_of c.args.table.now)) es) (sym c.as_slice.ensures.value) (endings_on c.args.plan.now facts.formed facts.lawful (place_of c.args.table.now) c.requires.place c.args.endings.items c.requires.endings)
+    subst (λ es. All (IsEndingOn c.args.plan.now (place_of c.args.table.now)) es) (sym c.as_slice.ensures.value) (endings_on c.args.plan.now facts.formed (place_of c.args.table.now) c.requires.place c.args.endings.items c.requires.endings)
 
 pub returns : goal.returns
 returns c =

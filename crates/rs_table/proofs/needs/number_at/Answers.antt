@@ -1,29 +1,28 @@
-use Rattle.std.proofs.Common.{rules, ◌≡◌, ◌≤◌, ◌<◌, ◌+◌, ◌∙◌, ap, sym, arith, cond}
-use Rattle.std.specs.Prelude.{slice_get, Some}
-use Rattle.std.proofs.lemmas.Bool.{le-leb, lt-leb}
+use Rattle.std.proofs.Common.{◌≡◌, ◌≤◌, ◌<◌, ◌+◌, ◌-◌, ◌/◌, length, Some, arith, subst}
+use Rattle.std.specs.Prelude.{slice_get}
 use Rattle.rs_check.specs.Plans.{reshapings_of}
-use Rattle.rs_table.proofs.Counts.{counted, counted_next}
+use Rattle.rs_check.specs.Values.{reshaped_by}
+use Rattle.rs_table.proofs.PlanReshapings.{number_at, number_before, numbers_grow}
 use Rattle.rs_table.proofs.needs.number_at.Goals as goal
-use Rattle.rs_table.proofs.needs.number_at.Goals.{then-reshaping-index, else-reshaping-index}
 
-pub loop-done-preserved : goal.loop-done-preserved
-loop-done-preserved c =
+pub search-preserved-then-reshaping-index : goal.search-preserved-then-reshaping-index
+search-preserved-then-reshaping-index c =
     let xs = reshapings_of c.args.plan.now c.args.a in
-    let k = c.loop-done.done in
-    let x = c.reshaping.result in
-    let got : slice_get xs k ≡ Some x = search rules in
-    let step = counted_next c.args.index k x xs got in
-    let old = c.loop-done.invariant in
-    elim c.if-reshaping-index.branch [
-      | then-reshaping-index w ↦
-          (let le : x ≤ c.args.index = search rules in
-          let one : counted c.args.index (k + 1) xs ≡ counted c.args.index k xs + 1 = step ∙ ap (λ b. counted c.args.index k xs + cond b 1 0) (le-leb x c.args.index le) in
-          let now : c.if-reshaping-index.number ≡ c.loop-done.number + 1 = search rules in
-          (let a = old.0 in omega (arith, now, one, a), let b = old.1 in omega (arith, now, b)))
-      | else-reshaping-index w ↦
-          (let lt : c.args.index < x = search rules in
-          let z : counted c.args.index (k + 1) xs ≡ counted c.args.index k xs + 0 = step ∙ ap (λ b. counted c.args.index k xs + cond b 1 0) (lt-leb x c.args.index lt) in
-          let one : counted c.args.index (k + 1) xs ≡ counted c.args.index k xs = omega (arith, z) in
-          let now : c.if-reshaping-index.number ≡ c.loop-done.number = search rules in
-          (now ∙ (old.0 ∙ sym one), let b = old.1 in omega (arith, now, b)))
-    ]
+    let k = c.search.low + (c.search.high - c.search.low) / 2 in
+    let i = c.reshaping.result in
+    let same : k + 1 - 1 ≡ k = omega arith in
+    let got : slice_get xs k ≡ Some i = subst (λ n. slice_get xs n ≡ Some i) same c.reshaping.ensures in
+    let at : reshaped_by c.args.plan.now c.args.a i ≡ k + 1 = number_at c.args.plan.now c.input.ensures.formed c.input.ensures.lawful c.args.a c.requires k i got in
+    let more : reshaped_by c.args.plan.now c.args.a i ≤ reshaped_by c.args.plan.now c.args.a c.args.index = numbers_grow c.args.plan.now c.args.a i c.args.index c.if-reshaping-index.true in
+    (omega (arith, at, more), c.search.invariant.1, c.search.invariant.2)
+
+pub search-preserved : goal.search-preserved
+search-preserved c =
+    let xs = reshapings_of c.args.plan.now c.args.a in
+    let k = c.search.low + (c.search.high - c.search.low) / 2 in
+    let i = c.reshaping.result in
+    let same : k + 1 - 1 ≡ k = omega arith in
+    let got : slice_get xs k ≡ Some i = subst (λ n. slice_get xs n ≡ Some i) same c.reshaping.ensures in
+    let top : c.search.high ≤ length xs = c.search.invariant.2 in
+    let some : c.search.low < c.search.high = c.search-test.true in
+    (c.search.invariant.0, number_before c.args.plan.now c.input.ensures.formed c.input.ensures.lawful c.args.a c.requires k i c.args.index got c.if-reshaping-index.false, omega (arith, top, some))

@@ -11,9 +11,9 @@ use Rattle.rs_apply.proofs.region.Region.step.Goals as goal
 pub change-requires-clause-ready : goal.change-requires-clause-ready
 change-requires-clause-ready c =
     let self = c.args.self in
-    let e = line_entry c.line-line.result in
-    ap (λ z. unheld self.plan.now self.address c.args.closed.now.items (merge_in z e.body)) c.verdict_of-why.ensures
-    ∙ sym (waits_here self.plan.now self.address self.index self.state self.map e c.args.closed.now.items self.held c.line-line.ensures.entry.entry) ∙ c.requires.ready
+    let e = line_entry c.args.next_entry.line in
+    ap (λ z. unheld self.plan.now self.address c.args.closed.now.items (merge_in z e.body)) c.requires.verdict
+    ∙ sym (waits_here self.plan.now self.address self.index self.state self.map e c.args.closed.now.items self.held c.requires.entry.entry) ∙ c.requires.ready
 
 pub invariant_of-result-clause-held : goal.invariant_of-result-clause-held
 invariant_of-result-clause-held c = c.in_ok-reply.ensures.next.0
@@ -22,21 +22,21 @@ pub invariant_of-result-clause-answered : goal.invariant_of-result-clause-answer
 invariant_of-result-clause-answered c =
     let self = c.args.self in
     answered_more self.plan.now self.address self.index c.change.new.state c.change.new.map self.state.region _ self.replies c.note_reply.new.replies self.since
-    (named self.plan.now c.requires.laws self.address self.index (line_entry c.line-line.result) c.line-line.ensures.entry self.state self.map self.held) c.in_ok-reply.ensures.next self.answered c.in_ok-note_reply.ensures
+    (named self.plan.now c.requires.laws self.address self.index (line_entry c.args.next_entry.line) c.requires.entry self.state self.map self.held) c.in_ok-reply.ensures.next self.answered c.in_ok-note_reply.ensures
 
 pub invariant_of-result-clause-merges : goal.invariant_of-result-clause-merges
 invariant_of-result-clause-merges c =
     let self = c.args.self in
-    let e = line_entry c.line-line.result in
+    let e = line_entry c.args.next_entry.line in
     merged_more self.plan.now self.address self.index c.merge_in.result self.merged c.note_merge.new.merged self.since
-    (merge_here self.plan.now self.address self.index self.state self.map e self.held c.line-line.ensures.entry.entry ∙ sym (c.merge_in.ensures ∙ ap (λ z. merge_in z e.body) c.verdict_of-why.ensures)) self.merges c.in_ok-note_merge.ensures
+    (merge_here self.plan.now self.address self.index self.state self.map e self.held c.requires.entry.entry ∙ sym (c.merge_in.ensures ∙ ap (merge_in c.args.next_entry.verdict) c.action-action.ensures ∙ ap (λ z. merge_in z e.body) c.requires.verdict)) self.merges c.in_ok-note_merge.ensures
 
 pub invariant_of-result-clause-counted : goal.invariant_of-result-clause-counted
 invariant_of-result-clause-counted c =
     let self = c.args.self in
-    let e = line_entry c.line-line.result in
-    counted_more self.plan.now c.requires.laws self.address self.index self.state self.map e c.line-line.ensures.entry self.held c.is_reshaping-is.result self.reshaped c.in_ok-reshaped.reshaped
-    (c.is_reshaping-is.ensures ∙ ap (λ z. reshapes_by z e.body) c.verdict_of-why.ensures) self.counted c.in_ok-reshaped.ensures.count
+    let e = line_entry c.args.next_entry.line in
+    counted_more self.plan.now c.requires.laws self.address self.index self.state self.map e c.requires.entry self.held c.is_reshaping-is.result self.reshaped c.in_ok-reshaped.reshaped
+    (c.is_reshaping-is.ensures ∙ ap (reshapes_by c.args.next_entry.verdict) c.action-action.ensures ∙ ap (λ z. reshapes_by z e.body) c.requires.verdict) self.counted c.in_ok-reshaped.ensures.count
 
 pub invariant_of-result-clause-few : goal.invariant_of-result-clause-few
 invariant_of-result-clause-few c = few_more c.is_reshaping-is.result c.args.self.reshaped c.in_ok-reshaped.reshaped c.args.self.index c.in_ok-reshaped.ensures.count c.args.self.few
@@ -44,13 +44,13 @@ invariant_of-result-clause-few c = few_more c.is_reshaping-is.result c.args.self
 pub returns-clause-done : goal.returns-clause-done
 returns-clause-done c =
     let self = c.args.self in
-    let e = line_entry c.line-line.result in
-    let entry = c.line-line.ensures.entry.entry in
+    let e = line_entry c.args.next_entry.line in
+    let entry = c.requires.entry.entry in
     let sent = c.in_ok-reply.ensures in
-    let merge = ap (λ z. merge_in z e.body) c.verdict_of-why.ensures ∙ sym (merge_here self.plan.now self.address self.index self.state self.map e self.held entry) in
-    let made = ap (λ z. made_in z self.state e.body) c.verdict_of-why.ensures ∙ sym (made_here self.plan.now self.address self.index self.state self.map e self.held entry) in
-    let is = c.is_reshaping-is.ensures ∙ ap (λ z. reshapes_by z e.body) c.verdict_of-why.ensures in
-    let nth = counted_more self.plan.now c.requires.laws self.address self.index self.state self.map e c.line-line.ensures.entry self.held c.is_reshaping-is.result self.reshaped c.in_ok-reshaped.reshaped is self.counted c.in_ok-reshaped.ensures.count in
+    let merge = ap (λ z. merge_in z e.body) c.requires.verdict ∙ sym (merge_here self.plan.now self.address self.index self.state self.map e self.held entry) in
+    let made = ap (λ z. made_in z self.state e.body) c.requires.verdict ∙ sym (made_here self.plan.now self.address self.index self.state self.map e self.held entry) in
+    let is = c.is_reshaping-is.ensures ∙ ap (reshapes_by c.args.next_entry.verdict) c.action-action.ensures ∙ ap (λ z. reshapes_by z e.body) c.requires.verdict in
+    let nth = counted_more self.plan.now c.requires.laws self.address self.index self.state self.map e c.requires.entry self.held c.is_reshaping-is.result self.reshaped c.in_ok-reshaped.reshaped is self.counted c.in_ok-reshaped.ensures.count in
     let reshapes = is ∙ sym (reshapes_here self.plan.now self.address self.index self.state self.map e self.held entry) in
     record {
       closed = subst (λ z. IsWithout self.plan.now self.address z c.args.closed.now.items c.change.new.closed.items) merge sent.closed;

@@ -7,6 +7,7 @@ use Rattle.rs_apply.proofs.region.Region.waits.Goals as goal
 pub returns : goal.returns
 returns c =
     let self = c.args.self.now in
-    let e = line_entry c.line-line.result in
-    c.unheld.ensures ∙ ap (unheld self.plan.now self.address c.args.closed.now) (c.merge_in.ensures ∙ ap (λ z. merge_in z e.body) c.verdict_of-why.ensures)
-    ∙ sym (waits_here self.plan.now self.address self.index self.state self.map e c.args.closed.now self.held c.line-line.ensures.entry.entry)
+    let next = c.args.next_entry in
+    let e = line_entry next.line in
+    c.unheld.ensures ∙ ap (unheld self.plan.now self.address c.args.closed.now) (c.merge_in-merge.ensures ∙ ap (merge_in next.verdict) c.action.ensures ∙ ap (λ z. merge_in z e.body) c.requires.verdict)
+    ∙ sym (waits_here self.plan.now self.address self.index self.state self.map e c.args.closed.now self.held c.requires.entry.entry)

@@ -1,23 +1,25 @@
-use Rattle.std.proofs.Common.{◌≡◌, ◌∙◌, sym, ap, subst}
+use Rattle.std.proofs.Common.{◌≡◌, ◌∙◌, ap, subst, refl}
 use Rattle.std.specs.Prelude.{None}
 use Rattle.rs_store.specs.Places.{known}
-use Rattle.rs_store.specs.Runs.{Moved, bare, seen}
-use Rattle.rs_store.specs.Stores.{ByRegion, stands}
+use Rattle.rs_store.specs.Runs.{Moved, bare, forget, seen}
+use Rattle.rs_store.specs.Stores.{ByRegion, passed, stands, step, with_region}
+use Rattle.rs_store.specs.Walks.{came}
+use Rattle.rs_store.proofs.FormLaws.{formed_store}
 use Rattle.rs_store.proofs.Passing.{calm_walk, pass_calm, pass_lone, pass_step}
 use Rattle.rs_store.proofs.walk.Walk.pass_next.Goals as goal
 
-pub returns-clause-step : goal.returns-clause-step
-returns-clause-step c = λ passed.
-    let may = c.may_pass.ensures c.if-not-may_pass.false in
-    pass_step c.args.self.now.indexed (known c.args.self.now.awaited) (seen c.args.self.now.regions) c.args.id may
-    ∙ ap Moved (sym (c.pass.ensures may.made may.here))
-
-pub returns-clause-walk : goal.returns-clause-walk
-returns-clause-walk c = λ passed.
-    let may = c.may_pass.ensures c.if-not-may_pass.false in
+pub returns-in-Ok-clause-walk : goal.returns-in-Ok-clause-walk
+returns-in-Ok-clause-walk c =
+    let may = c.requires.may in
     let w = c.args.self.now in
     let f = seen w.regions in
-    let now = c.pass.ensures may.made may.here in
-    calm_walk w.indexed w.awaited w.regions c.pass.new.self w.standing w.cursor w.steps c.args.id c.requires.formed c.requires.walk c.requires.ready
-    (pass_calm w.indexed (known w.awaited) f c.args.id may) (pass_step w.indexed (known w.awaited) f c.args.id may ∙ ap Moved (sym now))
-    (subst (λ (h : ByRegion). stands w.indexed (bare h) c.args.id ≡ None) (sym now) (pass_lone w.indexed (known w.awaited) f c.args.id may))
+    let went : forget (step w.indexed (bare f) c.args.id) ≡ Moved (seen c.step.new.regions) =
+    ap forget (c.in_ok-effect.ensures ∙ ap (came (seen c.step.new.regions)) c.in-Ok.is) in
+    let now : with_region f c.args.id (passed may.made) ≡ seen c.step.new.regions = cc (went, pass_step w.indexed (known w.awaited) f c.args.id may) in
+    record {
+      walk = calm_walk w.indexed w.awaited w.regions c.step.new.regions w.standing w.cursor w.steps c.args.id (formed_store w.indexed c.requires.walk.formed) c.requires.walk c.requires.ready
+          (pass_calm w.indexed (known w.awaited) f c.args.id may) went
+          (subst (λ (h : ByRegion). stands w.indexed (bare h) c.args.id ≡ None) now (pass_lone w.indexed (known w.awaited) f c.args.id may));
+      store = refl;
+      taken = refl;
+    }

@@ -13,10 +13,10 @@ pub returns-clause-greatest : goal.returns-clause-greatest
 returns-clause-greatest c =
     let s = c.loop-a.self in
     let i = c.loop-a.invariant in
-    let moves : Moves s.plan.now s.place = subst (λ x. Moves s.plan.now x) (sym i.1) (subst (λ x. Moves x.now c.args.self.now.place) (sym i.0) c.moves.ensures) in
-    moves.greatest (has s.told) (numbers s.taken.items) s.known s.cut s.told_all (λ x. stuck x (may_grow s.plan.now (has s.told) (numbers s.taken.items) x) refl)
+    let moves : Moves s.cut.plan.now s.cut.place = subst (λ x. Moves s.cut.plan.now x) (sym i.1) (subst (λ x. Moves x.now c.args.self.now.cut.place) (sym i.0) c.moves.ensures) in
+    moves.greatest (has s.told) (numbers s.cut.taken.items) s.known s.cut.cut s.told_all (λ x. stuck x (may_grow s.cut.plan.now (has s.told) (numbers s.cut.taken.items) x) refl)
   where
-    stuck : (x : ℕ) (b : Bool) → may_grow c.loop-a.self.plan.now (has c.loop-a.self.told) (numbers c.loop-a.self.taken.items) x ≡ b → may_grow c.loop-a.self.plan.now (has c.loop-a.self.told) (numbers c.loop-a.self.taken.items) x ≡ false
+    stuck : (x : ℕ) (b : Bool) → may_grow c.loop-a.self.cut.plan.now (has c.loop-a.self.told) (numbers c.loop-a.self.cut.taken.items) x ≡ b → may_grow c.loop-a.self.cut.plan.now (has c.loop-a.self.told) (numbers c.loop-a.self.cut.taken.items) x ≡ false
     stuck x false e = e
     stuck x true e = elim (c.in_default.ensures.kept x (c.loop-a.invariant.4 x e) e) [
       | inl p ↦ absurd cc

@@ -6,9 +6,9 @@ use Rattle.rs_table.proofs.cut.Growing.grow.Given as goal
 
 abbrev pub invariant-loop-a : goal.invariant-loop-a
 invariant-loop-a l =
-    (l.self.plan ≡ l.initial.self.plan) × (l.self.place ≡ l.initial.self.place) × (l.self.told ≡ l.initial.self.told)
-    × IsIn (numbers l.initial.self.taken.items) (numbers l.self.taken.items)
-    × ((x : ℕ) → may_grow l.self.plan.now (has l.self.told) (numbers l.self.taken.items) x ≡ true → is_among x l.work.items ≡ true)
+    (l.self.cut.plan ≡ l.initial.self.cut.plan) × (l.self.cut.place ≡ l.initial.self.cut.place) × (l.self.told ≡ l.initial.self.told)
+    × IsIn (numbers l.initial.self.cut.taken.items) (numbers l.self.cut.taken.items)
+    × ((x : ℕ) → may_grow l.self.cut.plan.now (has l.self.told) (numbers l.self.cut.taken.items) x ≡ true → is_among x l.work.items ≡ true)
 
 abbrev pub decreases-loop-a : goal.decreases-loop-a
-decreases-loop-a l = left_below l.self.plan.now l.self.place (numbers l.self.taken.items) (count_of l.self.plan.now)
+decreases-loop-a l = left_below l.self.cut.plan.now l.self.cut.place (numbers l.self.cut.taken.items) (count_of l.self.cut.plan.now)

@@ -8,7 +8,7 @@ pub loop-a-preserved : goal.loop-a-preserved
 loop-a-preserved c x among grows =
     let s = c.args.self.now in
     elim (among_last x c.in-Some.a c.loop-a.work.items c.pop.new.self.items c.in-Some.ensures.items (c.loop-a.invariant x among grows)) [
-      | inl e ↦ absurd (both_ways (may_grow s.plan.now (has s.told) (numbers s.taken.items) x) (sym (c.if-may.ensures.may ∙ ap (may_grow s.plan.now (has s.told) (numbers s.taken.items)) e)) grows)
+      | inl e ↦ absurd (both_ways (may_grow s.cut.plan.now (has s.told) (numbers s.cut.taken.items) x) (sym (c.if-may.ensures.may ∙ ap (may_grow s.cut.plan.now (has s.told) (numbers s.cut.taken.items)) e)) grows)
       | inr i ↦ i
     ]
 

@@ -8,8 +8,8 @@ pub grow-requires : goal.grow-requires
 grow-requires c = record {
   all = λ x grows.
       (let s = c.args.self.now in
-      let one = told_one s.plan.now (has s.told) (has c.put.new.self) (numbers s.taken.items) c.args.a c.args.nth c.in_ok-put.ensures.ok
-      (λ y g. greatest_stuck s.plan.now s.place (has s.told) (numbers s.taken.items) s.known c.requires.greatest y g) x grows in
+      let one = told_one s.cut.plan.now (has s.told) (has c.put.new.self) (numbers s.cut.taken.items) c.args.a c.args.nth c.in_ok-put.ensures.ok
+      (λ y g. greatest_stuck s.cut.plan.now s.cut.place (has s.told) (numbers s.cut.taken.items) s.known c.requires.greatest y g) x grows in
       let items : c.in_ok-work.work.items ≡ c.args.a ∷ [] = search rules in
       subst (λ xs. is_among x xs ≡ true) (sym items) (subst (λ z. is_among x (z ∷ []) ≡ true) one (among_one x)));
 }

@@ -8,6 +8,6 @@ use Rattle.rs_table.proofs.table.StoreTable.is_full.Goals as goal
 pub returns : goal.returns
 returns c =
     let g = c.args.self.now.growing in (
-      λ t. full_of g.plan.now g.place (numbers g.taken.items) g.cut (sym g.counted ∙ eqb-true g.unfinished 0 t),
-      λ f. eq-eqb g.unfinished 0 (g.counted ∙ full_is g.plan.now g.place (numbers g.taken.items) (count_of g.plan.now) f),
+      λ t. full_of g.cut.plan.now g.cut.place (numbers g.cut.taken.items) g.cut.cut (sym g.counted ∙ eqb-true g.unfinished 0 t),
+      λ f. eq-eqb g.unfinished 0 (g.counted ∙ full_is g.cut.plan.now g.cut.place (numbers g.cut.taken.items) (count_of g.cut.plan.now) f),
     )

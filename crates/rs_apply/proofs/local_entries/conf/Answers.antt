@@ -1,9 +1,0 @@
-use Rattle.rs_store.specs.Runs.{line_entry}
-use Rattle.rs_apply.proofs.Accepting.{changes_peers}
-use Rattle.rs_apply.proofs.local_entries.conf.Goals as goal
-
-pub returns : goal.returns
-returns c =
-    let next = c.args.next in
-    let r = c.requires in
-    changes_peers next.plan.now r.laws next.address next.index (line_entry next.line) next.entry c.args.state.now c.args.map.now r.held r.accept c.args.change.now c.exec_conf.new.self r.body c.in_ok-exec_conf.ensures.ok

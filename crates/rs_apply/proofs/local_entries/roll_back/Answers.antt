@@ -1,9 +1,0 @@
-use Rattle.rs_store.specs.Runs.{line_entry}
-use Rattle.rs_apply.proofs.Accepting.{rolls_back}
-use Rattle.rs_apply.proofs.local_entries.roll_back.Goals as goal
-
-pub returns : goal.returns
-returns c =
-    let next = c.args.next in
-    let r = c.requires in
-    rolls_back next.plan.now r.laws next.address next.index (line_entry next.line) next.entry c.args.state.now c.args.map.now r.held r.accept c.args.commit c.exec_rollback.new.self r.body c.exec_rollback.ensures
