@@ -15,6 +15,6 @@ pub record Belongs (bytes : List ℕ) (x : Input) : Type 0 where
   pub counted : AreCounted x
   pub spelled : bytes ≡ form_of x
 
--- of all bytes that begin with these, only these themselves belong to an input, and it is this one
+-- no bytes that begin with these belong to an input, but these themselves to this one
 abbrev pub StandsAlone : List ℕ → Input → Type 0
 StandsAlone bytes x = (rest : List ℕ) (y : Input) → Belongs (bytes ++ rest) y → (y ≡ x) × (rest ≡ [])

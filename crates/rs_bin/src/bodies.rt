@@ -26,7 +26,7 @@ impl Part for Op {
 
     ghost next = { same_next };
 
-    /// A kind, and a key of one byte.
+    /// Returns the least size in bytes: a tag, and a key of one byte behind its length.
     fn least() -> usize {
         4
     }
@@ -53,7 +53,7 @@ impl Part for Op {
     }
 }
 
-/// The operations of a write, behind their number.
+/// Reads the operations of a write, behind their number.
 #[tactic(auto, unfolding(crate::specs::Reading::write_at))]
 fn write(alloc: Global, cursor: &mut Cursor<'_>) -> Result<Rows<Op>, PartError>
     ensures { Takes result cursor.new (write_at cursor.old) }
@@ -69,7 +69,7 @@ impl Part for (u64, Key) {
 
     ghost next = { same_next };
 
-    /// An id, and a key of one byte.
+    /// Returns the least size in bytes: an id, and a key of one byte behind its length.
     fn least() -> usize {
         11
     }
@@ -99,7 +99,7 @@ struct IdsAndKeys {
     keys: Rows<Key>,
 }
 
-/// Pairs, taken apart.
+/// Returns pairs, taken apart.
 fn ids_and_keys(alloc: Global, pairs: Rows<(u64, Key)>) -> Result<IdsAndKeys, NoMemory>
     ensures ids { IfOk result (λ r. r.ids ≡ map (λ p. p.0) pairs) }
     ensures keys { IfOk result (λ r. r.keys ≡ map (λ p. p.1) pairs) }
@@ -113,14 +113,14 @@ fn ids_and_keys(alloc: Global, pairs: Rows<(u64, Key)>) -> Result<IdsAndKeys, No
     Ok(IdsAndKeys { ids, keys })
 }
 
-/// The side of a split by its number, which is 0 or 1.
+/// Returns the side of a split by its number, which is 0 or 1.
 fn side_of(number: u8) -> Side
     ensures { result ≡ side_of number }
 {
     if number == 0 { Side::Right } else { Side::Left }
 }
 
-/// The side and the pairs of a split.
+/// Reads the side and the pairs of a split.
 #[tactic(auto, unfolding(crate::specs::Reading::split_at))]
 fn split(alloc: Global, cursor: &mut Cursor<'_>) -> Result<Body, PartError>
     ensures { Takes result cursor.new (split_at cursor.old) }
@@ -136,7 +136,7 @@ fn split(alloc: Global, cursor: &mut Cursor<'_>) -> Result<Body, PartError>
     })
 }
 
-/// An epoch, if one more entry has room.
+/// Reads an epoch, if one more entry has room.
 #[tactic(auto, unfolding(crate::specs::Reading::epoch_at))]
 pub fn epoch(cursor: &mut Cursor<'_>) -> Result<Epoch, PartError>
     ensures { Takes result cursor.new (epoch_at cursor.old) }
@@ -147,7 +147,7 @@ pub fn epoch(cursor: &mut Cursor<'_>) -> Result<Epoch, PartError>
     Ok(Epoch { conf_ver, version })
 }
 
-/// The body of a carried entry behind its tag.
+/// Reads the body of a carried entry behind its tag.
 #[tactic(auto, unfolding(crate::specs::Reading::carried_body_at))]
 fn carried_body(alloc: Global, tag: u8, cursor: &mut Cursor<'_>) -> Result<CarriedBody, PartError>
     ensures { Takes result cursor.new (carried_body_at tag cursor.old) }
@@ -170,13 +170,13 @@ impl Part for Carried {
 
     ghost next = { same_next };
 
-    /// An epoch and a tag.
+    /// Returns the least size in bytes: an epoch and a tag.
     fn least() -> usize {
         17
     }
 
-    /// The number is the index of the commit. The last one has this index, and is a prepare; those before it are empty
-    /// or writes.
+    /// Reads a carried entry. The number is the index of the commit. The last one has this index, and is a prepare;
+    /// those before it are empty or writes.
     #[tactic(auto, unfolding(crate::specs::Reading::carried_at))]
     fn take(
         alloc: Global,
@@ -203,7 +203,7 @@ impl Part for Carried {
     }
 }
 
-/// The source of a commit, its index and what it carries.
+/// Reads the source of a commit, its index and what it carries.
 #[tactic(auto, unfolding(crate::specs::Reading::commit_at))]
 fn commit(alloc: Global, cursor: &mut Cursor<'_>) -> Result<Body, PartError>
     ensures { Takes result cursor.new (commit_at cursor.old) }
@@ -220,7 +220,7 @@ fn commit(alloc: Global, cursor: &mut Cursor<'_>) -> Result<Body, PartError>
     })
 }
 
-/// A body behind its tag, which is at most 7.
+/// Reads a body behind its tag, which is at most 7.
 #[tactic(auto, unfolding(crate::specs::Reading::body_at))]
 pub fn body(alloc: Global, tag: u8, cursor: &mut Cursor<'_>) -> Result<Body, PartError>
     ensures { Takes result cursor.new (body_at tag cursor.old) }

@@ -28,7 +28,7 @@ const KEY_BYTES: u16 = 256;
 /// The most bytes of a value.
 const VALUE_BYTES: u16 = 4_096;
 
-/// Whether the key is above the start, where there is one.
+/// Returns whether the key is above the start, if there is one.
 fn is_range(start: &Option<Key>, key: &Key) -> bool
     ensures { result ≡ is_range start.now (Some key.now) }
 {
@@ -38,7 +38,7 @@ fn is_range(start: &Option<Key>, key: &Key) -> bool
     }
 }
 
-/// What is left of a file, its version, and what it has had so far.
+/// The bytes left of a file, its version, and the counts of what was read of it.
 ///
 /// A call that takes something from the front answers Bad with the number of bytes that are left at the first field
 /// that is cut short or bad, so that no offset is kept. What the cursor is after an error is not said: reading ends
@@ -61,7 +61,7 @@ impl<'a> Model for Cursor<'a> {
 }
 
 impl<'a> Cursor<'a> {
-    /// A whole file, of which nothing is taken.
+    /// Returns the cursor at the first byte of a file.
     pub fn new(bytes: &'a [u8]) -> Cursor<'a>
         ensures { result ≡ start bytes.now }
     {
@@ -74,14 +74,14 @@ impl<'a> Cursor<'a> {
         }
     }
 
-    /// How many bytes are left.
+    /// Returns how many bytes are left.
     pub fn left(&self) -> usize
         ensures { result ≡ length self.now.bytes }
     {
         self.rest.len()
     }
 
-    /// The version of the file.
+    /// Returns the version of the file.
     pub fn version(&self) -> u64
         ensures { result ≡ self.now.version }
     {
@@ -95,14 +95,14 @@ impl<'a> Cursor<'a> {
         self.version = version;
     }
 
-    /// The answer where the next field is cut short or bad.
+    /// Returns the answer where the next field is cut short or bad.
     fn bad(&self) -> PartError
         ensures { result ≡ PartError.Bad (length self.now.bytes) }
     {
         PartError::Bad(self.rest.len())
     }
 
-    /// Takes a number of eight bytes, from the low one to the high one.
+    /// Takes a number of eight bytes, high byte first, of at least `low` and at most `high`.
     #[tactic(auto, unfolding(crate::specs::Reading::number_at))]
     pub fn u64(&mut self, low: u64, high: u64) -> Result<u64, PartError>
         ensures { Takes result self.new (number_at 8 low high self.old) }
@@ -129,7 +129,7 @@ impl<'a> Cursor<'a> {
         self.u64(number + 1, MOST)
     }
 
-    /// Takes a number of four bytes, from the low one to the high one.
+    /// Takes a number of four bytes, high byte first, of at least `low` and at most `high`.
     #[tactic(auto, unfolding(crate::specs::Reading::number_at))]
     pub fn u32(&mut self, low: u32, high: u32) -> Result<u32, PartError>
         ensures { Takes result self.new (number_at 4 low high self.old) }
@@ -145,7 +145,7 @@ impl<'a> Cursor<'a> {
         Ok(number)
     }
 
-    /// Takes a number of two bytes, from the low one to the high one.
+    /// Takes a number of two bytes, high byte first, of at least `low` and at most `high`.
     #[tactic(auto, unfolding(crate::specs::Reading::number_at))]
     pub fn u16(&mut self, low: u16, high: u16) -> Result<u16, PartError>
         ensures value { Takes result self.new (number_at 2 low high self.old) }
@@ -163,7 +163,7 @@ impl<'a> Cursor<'a> {
         Ok(number)
     }
 
-    /// Takes a number of one byte, from the low one to the high one.
+    /// Takes a number of one byte, of at least `low` and at most `high`.
     #[tactic(auto, unfolding(crate::specs::Reading::number_at))]
     pub fn u8(&mut self, low: u8, high: u8) -> Result<u8, PartError>
         ensures { Takes result self.new (number_at 1 low high self.old) }
@@ -178,7 +178,7 @@ impl<'a> Cursor<'a> {
         }
     }
 
-    /// Takes so many bytes.
+    /// Takes `len` bytes.
     #[tactic(auto, unfolding(crate::specs::Reading::bytes_at))]
     fn bytes(&mut self, alloc: Global, len: u16) -> Result<Bytes, PartError>
         ensures value { Takes result self.new (bytes_at len self.old) }
@@ -194,7 +194,7 @@ impl<'a> Cursor<'a> {
         Ok(bytes)
     }
 
-    /// Takes from so many bytes to so many, behind their length.
+    /// Takes `low` to `high` bytes, behind their length.
     #[tactic(auto, unfolding(crate::specs::Reading::string_at))]
     fn string(&mut self, alloc: Global, low: u16, high: u16) -> Result<Bytes, PartError>
         ensures value { Takes result self.new (string_at low high self.old) }
@@ -221,7 +221,7 @@ impl<'a> Cursor<'a> {
         Ok(Value::from_bytes(bytes))
     }
 
-    /// Takes a bound: a key, which is above the start where there is one, or none where its length is 0.
+    /// Takes a bound: a key, which is above the start if there is one, or none if its length is 0.
     #[tactic(auto, unfolding(crate::specs::Reading::bound_at))]
     pub fn bound(&mut self, alloc: Global, start: &Option<Key>) -> Result<Option<Key>, PartError>
         ensures value { Takes result self.new (bound_at start.now self.old) }
@@ -239,7 +239,7 @@ impl<'a> Cursor<'a> {
         Ok(Some(key))
     }
 
-    /// Takes two bounds, the end above the start where both are there.
+    /// Takes two bounds, the end above the start if both are there.
     #[tactic(auto, unfolding(crate::specs::Reading::range_at))]
     pub fn range(&mut self, alloc: Global) -> Result<Range, PartError>
         ensures { Takes result self.new (range_at self.old) }
@@ -252,7 +252,7 @@ impl<'a> Cursor<'a> {
         }
     }
 
-    /// One more region, or pair of a split, if it has room.
+    /// Counts one more region, or pair of a split, if it has room.
     #[tactic(auto, unfolding(crate::specs::Reading::boot_room))]
     pub fn boot_room(&mut self) -> Result<(), PartError>
         ensures { Takes result self.new (boot_room self.old) }
@@ -264,7 +264,7 @@ impl<'a> Cursor<'a> {
         Ok(())
     }
 
-    /// One more entry, if it has room.
+    /// Counts one more entry, if it has room.
     #[tactic(auto, unfolding(crate::specs::Reading::line_room))]
     pub fn line_room(&mut self) -> Result<(), PartError>
         ensures { Takes result self.new (line_room self.old) }
@@ -276,7 +276,7 @@ impl<'a> Cursor<'a> {
         Ok(())
     }
 
-    /// One more operation, if it has room.
+    /// Counts one more operation, if it has room.
     #[tactic(auto, unfolding(crate::specs::Reading::operation_room))]
     pub fn operation_room(&mut self) -> Result<(), PartError>
         ensures { Takes result self.new (operation_room self.old) }

@@ -5,20 +5,20 @@ ghost use Rattle.rs_bin.specs.declared.error.PartError.TheVariants as why;
 
 use rs_key::NoMemory;
 
-/// Why bytes are read as no input.
+/// The error of bytes that weren't read.
 #[derive(Clone, Copy, Debug, PartialEq, Eq)]
 pub enum BinError {
-    /// They are no binary file. The offset, from 0, of the first field that is cut short or bad, or of the first byte
-    /// behind a whole file.
+    /// The bytes are no binary file. The offset, from 0, of the first field that is cut short or bad, or of the first
+    /// byte behind a whole file.
     Bad(u64),
     /// Memory ran out.
     NoMemory,
 }
 
-/// Why a part of a file was not read.
+/// The error of a part of a file that wasn't read.
 #[derive(Clone, Copy, Debug, PartialEq, Eq)]
 pub enum PartError {
-    /// How many bytes are left at the first field that is cut short or bad.
+    /// The number of bytes left at the first field that is cut short or bad.
     Bad(usize),
     /// Memory ran out.
     NoMemory,

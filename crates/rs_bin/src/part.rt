@@ -11,7 +11,7 @@ use std::alloc::Global;
 /// The most parts for which room is taken before they are read.
 const ROOM: usize = 1_048_576;
 
-/// What stands in a list of a file.
+/// An element of a list of a file.
 pub trait Part: Drop {
     // Reading one, by a number that the parts before it make, and by how many parts of its list follow it.
     ghost at: { ℕ → ℕ → Rest → Read Self };
@@ -19,7 +19,7 @@ pub trait Part: Drop {
     // The number for the next part.
     ghost next: { ℕ → Self → ℕ };
 
-    /// How many bytes one has at least.
+    /// Returns the least number of bytes that a value has in the file.
     fn least() -> usize
     where
         Self: Sized,
@@ -36,12 +36,12 @@ pub trait Part: Drop {
         Self: Sized,
         ensures { Takes result cursor.new (at number left cursor.old) };
 
-    /// The number for the next part.
+    /// Returns the number by which the next part is read.
     fn next(&self, number: u64) -> u64
         ensures { result ≡ next number self.now };
 }
 
-/// Takes so many parts, the first of them by the number. Room is taken for no more parts than the bytes can hold.
+/// Takes `count` parts, the first of them by the number. Reserves room for no more parts than the bytes can hold.
 pub fn many<T: Part>(
     alloc: Global,
     first: u64,
@@ -60,7 +60,7 @@ pub fn many<T: Part>(
     Ok(parts)
 }
 
-/// For how many of so many parts room is taken, where so many bytes are left and each part has so many at least.
+/// Returns for how many parts room is reserved: for no more than the bytes left can hold.
 fn room_for(count: u32, left: usize, least: usize) -> usize
     requires { 0 < least }
 {

@@ -1,6 +1,7 @@
 //! A whole file, read.
 
 ghost use Rattle.std.specs.Prelude.{◌≡◌, ◌≤◌, Ok, IfOk, length};
+ghost use Rattle.rs_bin.specs.FirstFault.{NoneBefore, NoneBelongs};
 ghost use Rattle.rs_bin.specs.Grammar.{Belongs};
 ghost use Rattle.rs_bin.specs.Reading.{Takes, Gives, GivesFile, most, start, last_tag, peers_at, stores_at, input_at, whole_at, read_form};
 
@@ -12,7 +13,7 @@ use rs_entry::{Boot, Entry, Input, Log, Store};
 use rs_key::Rows;
 use std::alloc::Global;
 
-/// What a file begins with: "RRL1".
+/// The first four bytes of a file: "RRL1".
 const MAGIC: u32 = 0x5252_4c31;
 
 /// The most stores of a file.
@@ -21,7 +22,7 @@ const STORES: u32 = 64;
 /// The most peers of a region.
 const PEERS: u8 = 64;
 
-/// The greatest tag of a body: changes of peers are in version 2 alone.
+/// Returns the greatest tag of a body: changes of peers are in version 2 alone.
 fn last_tag(version: u64) -> u8
     ensures { result ≡ last_tag version }
 {
@@ -35,12 +36,12 @@ impl Part for Entry {
 
     ghost next = { same_next };
 
-    /// An epoch and a tag.
+    /// Returns the least size in bytes: an epoch and a tag.
     fn least() -> usize {
         17
     }
 
-    /// The number is one above the index of the log's last entry; the first one has the index 6.
+    /// Reads an entry. The number is one above the index of the log's last entry; the first one has the index 6.
     #[tactic(auto, unfolding(crate::specs::Reading::entry_at))]
     fn take(
         alloc: Global,
@@ -70,7 +71,7 @@ impl Part for Log {
 
     ghost next = { log_next };
 
-    /// A region, and the number of entries.
+    /// Returns the least size in bytes: a region, and the number of entries.
     fn least() -> usize {
         12
     }
@@ -119,7 +120,7 @@ impl Part for u64 {
     }
 }
 
-/// The peers of a region: in version 2 one or more, in version 1 none.
+/// Reads the peers of a region: in version 2 one or more, in version 1 none.
 #[tactic(auto, unfolding(crate::specs::Reading::peers_at))]
 fn peers(alloc: Global, cursor: &mut Cursor<'_>) -> Result<Rows<u64>, PartError>
     ensures { Takes result cursor.new (peers_at cursor.old) }
@@ -138,7 +139,7 @@ impl Part for Boot {
 
     ghost next = { region_next };
 
-    /// An id, and two lengths.
+    /// Returns the least size in bytes: an id, and the lengths of two bounds.
     fn least() -> usize {
         12
     }
@@ -173,7 +174,7 @@ impl Part for Store {
 
     ghost next = { store_next };
 
-    /// An id, and two numbers.
+    /// Returns the least size in bytes: an id, and two numbers.
     fn least() -> usize {
         16
     }
@@ -198,7 +199,7 @@ impl Part for Store {
     }
 }
 
-/// The stores of a file of the version.
+/// Reads the stores of a file of the version.
 #[tactic(auto, unfolding(crate::specs::Reading::stores_at))]
 fn stores(alloc: Global, version: u64, cursor: &mut Cursor<'_>) -> Result<Input, PartError>
     ensures { Takes result cursor.new (stores_at version cursor.old) }
@@ -208,7 +209,7 @@ fn stores(alloc: Global, version: u64, cursor: &mut Cursor<'_>) -> Result<Input,
     Ok(Input { version, stores })
 }
 
-/// An input.
+/// Reads an input.
 #[tactic(auto, unfolding(crate::specs::Reading::input_at))]
 fn input(alloc: Global, cursor: &mut Cursor<'_>) -> Result<Input, PartError>
     ensures { Takes result cursor.new (input_at cursor.old) }
@@ -219,7 +220,7 @@ fn input(alloc: Global, cursor: &mut Cursor<'_>) -> Result<Input, PartError>
     stores(alloc, version, cursor)
 }
 
-/// An input, and nothing after it.
+/// Reads an input, and nothing after it.
 #[tactic(auto, unfolding(crate::specs::Reading::whole_at))]
 fn whole(alloc: Global, mut cursor: Cursor<'_>) -> Result<Input, PartError>
     ensures { Gives result (whole_at cursor.entry) }
@@ -231,7 +232,7 @@ fn whole(alloc: Global, mut cursor: Cursor<'_>) -> Result<Input, PartError>
     Ok(input)
 }
 
-/// The input of a file, or the offset of its first fault.
+/// Returns the input of a file, or the offset of its first fault.
 #[tactic(auto, unfolding(crate::specs::Reading::read_form))]
 fn whole_file(alloc: Global, bytes: &[u8]) -> Result<Input, BinError>
     ensures { GivesFile result (read_form bytes.now) }
@@ -243,8 +244,9 @@ fn whole_file(alloc: Global, bytes: &[u8]) -> Result<Input, BinError>
     }
 }
 
-/// The input whose binary form the bytes are, or the offset of their first fault: of the first field that is cut short
-/// or bad, or of the first byte behind a whole file. The form and its rules are in docs/FORMAT.md, "A binary file".
+/// Returns the input whose binary form the bytes are, or the offset of their first fault: of the first field that is
+/// cut short or bad, or of the first byte behind a whole file. The form and its rules are in docs/FORMAT.md, "A binary
+/// file".
 ///
 /// An offset counts bytes from 0, and is at most the length. NoMemory is want of memory, and tells nothing of the bytes.
 /// Room for a list is taken at once, but for no more parts than the bytes that are left can hold.
@@ -255,11 +257,17 @@ fn whole_file(alloc: Global, bytes: &[u8]) -> Result<Input, BinError>
 /// - `exact`: the answer is that of reading field by field, with the offset of the first fault;
 /// - `found`: the bytes belong to an input that is answered, so it is well formed;
 /// - `only`: bytes that belong to an input are read as that input, so no such bytes have a fault, and no bytes belong to
-///   two inputs.
+///   two inputs;
+/// - `before`: the bytes before the offset of a fault have no fault but that they end, or they belong to an input and
+///   more bytes follow;
+/// - `none`: where the bad field isn't cut short, no bytes that begin as these do, through that field, belong to an
+///   input.
 pub fn read_binary(alloc: Global, bytes: &[u8]) -> Result<Input, BinError>
     ensures exact { GivesFile result (read_form bytes.now) }
     ensures found { IfOk result (λ x. Belongs bytes.now x) }
     ensures only { (x : Input) → Belongs bytes.now x → GivesFile result (Ok x) }
+    ensures before { NoneBefore bytes.now result }
+    ensures none { NoneBelongs bytes.now result }
 {
     whole_file(alloc, bytes)
 }

@@ -68,7 +68,7 @@ fn put_string(out: &mut Vec<u8>, bytes: &[u8]) -> Result<(), NoMemory>
     Ok(())
 }
 
-/// Appends a bound of a range: a length of 0 where there is none.
+/// Appends a bound of a range: a length of 0 if the bound is missing.
 fn put_bound(out: &mut Vec<u8>, bound: &Option<Key>) -> Result<(), NoMemory>
     ensures { Appends result out.old out.new (bound_form bound.now) }
 {
@@ -80,7 +80,7 @@ fn put_bound(out: &mut Vec<u8>, bound: &Option<Key>) -> Result<(), NoMemory>
 
 // ---- lists
 
-/// What stands in a list of a file.
+/// An element of a list of a file.
 trait Block {
     // Its bytes in a file of the version.
     ghost form: { ℕ → Self → List ℕ };
@@ -331,7 +331,7 @@ impl Block for Store {
     }
 }
 
-/// The binary form of any input.
+/// Returns the binary form of any input.
 #[tactic(auto, unfolding(crate::specs::Forms::form_of))]
 fn form(alloc: Global, input: &Input) -> Result<Vec<u8>, NoMemory>
     ensures { IfOk result (λ bytes. bytes.items ≡ form_of input.now) }
@@ -344,7 +344,8 @@ fn form(alloc: Global, input: &Input) -> Result<Vec<u8>, NoMemory>
     Ok(out)
 }
 
-/// The binary form of a well-formed input, of which each store has fewer than 2^32 logs: docs/FORMAT.md, "A binary file".
+/// Returns the binary form of a well-formed input, of which each store has fewer than 2^32 logs: docs/FORMAT.md, "A
+/// binary file".
 ///
 /// NoMemory is want of memory, and leaves nothing. What the clauses say:
 ///
